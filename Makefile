@@ -1,0 +1,12 @@
+# make test: what the gate runs.   make run: proves and runs the program that calls everything at its edges.
+.PHONY: test run clean
+
+test:
+	@tests/gate
+
+run:
+	@rt check edges
+	@target/bin/edges
+
+clean:
+	rm -rf target
