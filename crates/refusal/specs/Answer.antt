@@ -1,0 +1,33 @@
+-- What a call answers: done, with its values, or a refusal.
+use Prim.Native.Nat.{ℕ}
+use mathlib.Core.List.{List, [], _∷_}
+use mathlib.Core.Bool.{Bool, true, false, not}
+use lib.Dec.{eqb, ltb}
+use Rattle.refusal.specs.declared.Refusal.{Refusal}
+use Rattle.refusal.specs.Refusal.{number, refusal}
+
+pub data Answer (A : Type 0) : Type 0 where
+  done : A → Answer A
+  refused : Refusal → Answer A
+
+-- zero means done
+abbrev pub answerNumber : {A : Type 0} → Answer A → ℕ
+answerNumber (done a) = 0
+answerNumber (refused r) = number r
+
+-- "The first that applies is given": the refusal numbers in their order, each with whether it applies; what a refusal gives; and what is given where none applies
+unfoldable pub first : {X : Type 0} → List (ℕ × Bool) → (Refusal → X) → X → X
+first [] deny give = give
+first ((n, true) ∷ checks) deny give = deny (refusal n)
+first ((n, false) ∷ checks) deny give = first checks deny give
+
+-- what checks ask: whether a number is above the most allowed, whether one of two things applies, whether a number is not the one wanted
+abbrev pub above : ℕ → ℕ → Bool
+above most x = ltb most x
+
+abbrev pub either : Bool → Bool → Bool
+either true b = true
+either false b = b
+
+abbrev pub isNot : ℕ → ℕ → Bool
+isNot wanted x = not (eqb x wanted)

@@ -1,0 +1,49 @@
+// Refusals: the kind of thing refused together with its number, the answer of a check, and the checks that every crate shares.
+ghost use mathlib.Core.Path.{_≡_};
+ghost use Rattle.refusal.specs.Refusal.{failed};
+ghost use Rattle.refusal.specs.Answer.{above, either, isNot};
+
+pub enum Refusal {
+    Operand(u8),
+    Key(u8),
+    Buffer(u8),
+    Strip(u8),
+    Direction(u8),
+}
+
+pub enum Check {
+    Passed,
+    Failed,
+}
+
+// Fails where x is above the most allowed.
+pub fn check_most(x: u8, most: u8) -> Check
+    ensures { λ c. ⌜ failed c ≡ above most x ⌝ }
+{
+    if most < x {
+        Check::Failed
+    } else {
+        Check::Passed
+    }
+}
+
+// Fails where one of the two is above the most allowed.
+pub fn check_both(x: u8, y: u8, most: u8) -> Check
+    ensures { λ c. ⌜ failed c ≡ either (above most x) (above most y) ⌝ }
+{
+    let Check::Passed = check_most(x, most) else {
+        return Check::Failed;
+    };
+    check_most(y, most)
+}
+
+// Fails where a length is not the one wanted.
+pub fn check_length(length: usize, wanted: usize) -> Check
+    ensures { λ c. ⌜ failed c ≡ isNot wanted length ⌝ }
+{
+    if length == wanted {
+        Check::Passed
+    } else {
+        Check::Failed
+    }
+}
