@@ -1,0 +1,14 @@
+use Rattle.tower.proofs.Leaf.{join-made}
+use Rattle.tower.proofs.Split.{lo-lt}
+use native.Mathlib.Omega.{arith}
+use Rattle.tower.proofs.halves.join_nibbles.Statement.{statement}
+use Rattle.tower.proofs.halves.join_nibbles.Tie as tie
+use Rattle.tower.proofs.halves.join_nibbles.Reads as reads
+use Rattle.tower.proofs.halves.join_nibbles.Lts as lts
+
+-- src/arithmetic.rt:18:1
+returns : tie.Need-returns
+returns c = join-made 4 (c .args .high) (c .args .low) (let h = lo-lt 4 (c .args .high) in omega arith)
+
+pub join-nibbles-spec : {M : Type 1} → statement M
+join-nibbles-spec = tie.close (tie.spec returns)

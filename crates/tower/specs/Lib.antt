@@ -1,0 +1,5 @@
+pub mod Tower
+pub mod Points
+pub mod Counts
+pub mod Answers
+pub mod Claims
