@@ -1,0 +1,213 @@
+// Every operand, every length of a points buffer up to 200 and every third record byte, called once each: prints how many were answered, how many refused as
+// document 01 says with nothing lent changed, and how many did anything else.
+ghost use Prim.Native.Nat.{_≤_};
+ghost use lib.ListN.{length};
+use inversion::Masked;
+use libc::STDOUT_FILENO;
+use refusal::Refusal;
+use tower::Element;
+use tower::Record;
+
+const FRESH: u8 = 0xa5;
+
+struct Tally {
+    answered: u64,
+    refused: u64,
+    other: u64,
+}
+
+enum Outcome {
+    Answered,
+    Refused,
+    Other,
+}
+
+fn count(t: Tally, o: Outcome) -> Tally {
+    match o {
+        Outcome::Answered => Tally {
+            answered: std::num::wrapping_add_u64(t.answered, 1),
+            refused: t.refused,
+            other: t.other,
+        },
+        Outcome::Refused => Tally {
+            answered: t.answered,
+            refused: std::num::wrapping_add_u64(t.refused, 1),
+            other: t.other,
+        },
+        Outcome::Other => Tally {
+            answered: t.answered,
+            refused: t.refused,
+            other: std::num::wrapping_add_u64(t.other, 1),
+        },
+    }
+}
+
+fn report(name: &[u8], t: Tally) {
+    io::write_all(STDOUT_FILENO, name);
+    io::write_all(STDOUT_FILENO, b" ");
+    io::print_decimal(STDOUT_FILENO, t.answered);
+    io::write_all(STDOUT_FILENO, b" ");
+    io::print_decimal(STDOUT_FILENO, t.refused);
+    io::write_all(STDOUT_FILENO, b" ");
+    io::print_decimal(STDOUT_FILENO, t.other);
+    io::write_all(STDOUT_FILENO, b"\n");
+}
+
+fn operand_number(r: Refusal) -> u8 {
+    match r {
+        Refusal::Operand(n) => n,
+        Refusal::Key(_) => 0,
+        Refusal::Buffer(_) => 0,
+        Refusal::Strip(_) => 0,
+        Refusal::Direction(_) => 0,
+    }
+}
+
+fn buffer_number(r: Refusal) -> u8 {
+    match r {
+        Refusal::Buffer(n) => n,
+        Refusal::Operand(_) => 0,
+        Refusal::Key(_) => 0,
+        Refusal::Strip(_) => 0,
+        Refusal::Direction(_) => 0,
+    }
+}
+
+fn element_outcome(e: Element) -> Outcome {
+    match e {
+        Element::Value(_) => Outcome::Answered,
+        Element::Refused(r) => {
+            if operand_number(r) == 1 {
+                Outcome::Refused
+            } else {
+                Outcome::Other
+            }
+        }
+    }
+}
+
+// One of the four checked calls, by its place in the list.
+fn call(which: u8, x: u8, y: u8) -> Element {
+    if which == 0 {
+        return tower::pair_product(x, y);
+    }
+    if which == 1 {
+        return tower::pair_inverse(x);
+    }
+    if which == 2 {
+        return tower::nibble_product(x, y);
+    }
+    tower::nibble_inverse(x)
+}
+
+fn elements(which: u8, calls: usize) -> Tally {
+    let mut t = Tally {
+        answered: 0,
+        refused: 0,
+        other: 0,
+    };
+    let mut i: usize = 0;
+    while i < calls {
+        let x = (i % 256) as u8;
+        let y = (i / 256 % 256) as u8;
+        t = count(t, element_outcome(call(which, x, y)));
+        i += 1;
+    }
+    t
+}
+
+fn unchanged(buffer: &[u8]) -> bool {
+    let mut i: usize = 0;
+    while i < buffer.len() {
+        if buffer[i] != FRESH {
+            return false;
+        }
+        i += 1;
+    }
+    true
+}
+
+// Whether a call refused with one of the two numbers, and then left its buffer alone.
+fn masked_outcome(m: Masked, operand: u8, buffer: u8, same: bool) -> Outcome {
+    match m {
+        Masked::Byte(_, _) => Outcome::Answered,
+        Masked::Refused(r) => {
+            if !same {
+                return Outcome::Other;
+            }
+            if operand_number(r) != operand {
+                return Outcome::Other;
+            }
+            if buffer_number(r) == buffer {
+                Outcome::Refused
+            } else {
+                Outcome::Other
+            }
+        }
+    }
+}
+
+// A call on the first n bytes of a fresh buffer, with this third record byte.
+fn called(buffer: &mut [u8], n: usize, r: u8) -> Masked
+    requires { ⌜ n ≤ length (now buffer) ⌝ }
+{
+    let record = Record {
+        qt: 0x59,
+        s: 0x3c,
+        r: r,
+    };
+    inversion::invert_points(0x11, 0x42, record, &mut buffer[..n])
+}
+
+fn with_length(n: usize) -> Outcome
+    requires { ⌜ n ≤ 200 ⌝ }
+{
+    let mut buffer = [FRESH; 200];
+    let m = called(&mut buffer, n, 1);
+    let same = unchanged(&buffer);
+    masked_outcome(m, 0, 3, same)
+}
+
+fn with_third_byte(r: u8) -> Outcome {
+    let mut buffer = [FRESH; 62];
+    let m = called(&mut buffer, 62, r);
+    let same = unchanged(&buffer);
+    masked_outcome(m, 2, 0, same)
+}
+
+fn lengths() -> Tally {
+    let mut t = Tally {
+        answered: 0,
+        refused: 0,
+        other: 0,
+    };
+    let mut n: usize = 0;
+    while n < 201 {
+        t = count(t, with_length(n));
+        n += 1;
+    }
+    t
+}
+
+fn third_bytes() -> Tally {
+    let mut t = Tally {
+        answered: 0,
+        refused: 0,
+        other: 0,
+    };
+    let mut r: usize = 0;
+    while r < 256 {
+        t = count(t, with_third_byte((r % 256) as u8));
+        r += 1;
+    }
+    t
+}
+
+fn main() {
+    report(b"pair_product", elements(0, 65536));
+    report(b"pair_inverse", elements(1, 256));
+    report(b"nibble_product", elements(2, 65536));
+    report(b"nibble_inverse", elements(3, 256));
+    report(b"points_length", lengths());
+    report(b"third_record_byte", third_bytes());
+}

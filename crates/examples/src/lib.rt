@@ -1,0 +1,1 @@
+// The examples marked P of document 01: one table and one statement, no code.
