@@ -8,7 +8,7 @@ use refusal::Refusal;
 use tower::Element;
 use tower::Record;
 
-const FRESH: u8 = 0xa5;
+const UNTOUCHED: u8 = 0xa5;
 
 struct Tally {
     answered: u64,
@@ -53,23 +53,13 @@ fn report(name: &[u8], t: Tally) {
     io::write_all(STDOUT_FILENO, b"\n");
 }
 
-fn operand_number(r: Refusal) -> u8 {
+fn number(r: Refusal) -> u8 {
     match r {
         Refusal::Operand(n) => n,
-        Refusal::Key(_) => 0,
-        Refusal::Buffer(_) => 0,
-        Refusal::Strip(_) => 0,
-        Refusal::Direction(_) => 0,
-    }
-}
-
-fn buffer_number(r: Refusal) -> u8 {
-    match r {
+        Refusal::Key(n) => n,
         Refusal::Buffer(n) => n,
-        Refusal::Operand(_) => 0,
-        Refusal::Key(_) => 0,
-        Refusal::Strip(_) => 0,
-        Refusal::Direction(_) => 0,
+        Refusal::Strip(n) => n,
+        Refusal::Direction(n) => n,
     }
 }
 
@@ -77,7 +67,7 @@ fn element_outcome(e: Element) -> Outcome {
     match e {
         Element::Value(_) => Outcome::Answered,
         Element::Refused(r) => {
-            if operand_number(r) == 1 {
+            if number(r) == 1 {
                 Outcome::Refused
             } else {
                 Outcome::Other
@@ -119,7 +109,7 @@ fn elements(which: u8, calls: usize) -> Tally {
 fn unchanged(buffer: &[u8]) -> bool {
     let mut i: usize = 0;
     while i < buffer.len() {
-        if buffer[i] != FRESH {
+        if buffer[i] != UNTOUCHED {
             return false;
         }
         i += 1;
@@ -127,18 +117,15 @@ fn unchanged(buffer: &[u8]) -> bool {
     true
 }
 
-// Whether a call refused with one of the two numbers, and then left its buffer alone.
-fn masked_outcome(m: Masked, operand: u8, buffer: u8, same: bool) -> Outcome {
+// Whether a call refused with this number, and then left its buffer alone.
+fn masked_outcome(m: Masked, expected: u8, same: bool) -> Outcome {
     match m {
         Masked::Byte(_, _) => Outcome::Answered,
         Masked::Refused(r) => {
             if !same {
                 return Outcome::Other;
             }
-            if operand_number(r) != operand {
-                return Outcome::Other;
-            }
-            if buffer_number(r) == buffer {
+            if number(r) == expected {
                 Outcome::Refused
             } else {
                 Outcome::Other
@@ -147,7 +134,7 @@ fn masked_outcome(m: Masked, operand: u8, buffer: u8, same: bool) -> Outcome {
     }
 }
 
-// A call on the first n bytes of a fresh buffer, with this third record byte.
+// A call on the first n bytes of a buffer, with this third record byte.
 fn called(buffer: &mut [u8], n: usize, r: u8) -> Masked
     requires { ⌜ n ≤ length (now buffer) ⌝ }
 {
@@ -159,20 +146,14 @@ fn called(buffer: &mut [u8], n: usize, r: u8) -> Masked
     inversion::invert_points(0x11, 0x42, record, &mut buffer[..n])
 }
 
-fn with_length(n: usize) -> Outcome
+// The same on a fresh buffer, which has to be refused with this number, if at all.
+fn fresh(n: usize, r: u8, expected: u8) -> Outcome
     requires { ⌜ n ≤ 200 ⌝ }
 {
-    let mut buffer = [FRESH; 200];
-    let m = called(&mut buffer, n, 1);
+    let mut buffer = [UNTOUCHED; 200];
+    let m = called(&mut buffer, n, r);
     let same = unchanged(&buffer);
-    masked_outcome(m, 0, 3, same)
-}
-
-fn with_third_byte(r: u8) -> Outcome {
-    let mut buffer = [FRESH; 62];
-    let m = called(&mut buffer, 62, r);
-    let same = unchanged(&buffer);
-    masked_outcome(m, 2, 0, same)
+    masked_outcome(m, expected, same)
 }
 
 fn lengths() -> Tally {
@@ -183,7 +164,7 @@ fn lengths() -> Tally {
     };
     let mut n: usize = 0;
     while n < 201 {
-        t = count(t, with_length(n));
+        t = count(t, fresh(n, 1, 3));
         n += 1;
     }
     t
@@ -197,7 +178,7 @@ fn third_bytes() -> Tally {
     };
     let mut r: usize = 0;
     while r < 256 {
-        t = count(t, with_third_byte((r % 256) as u8));
+        t = count(t, fresh(62, (r % 256) as u8, 2));
         r += 1;
     }
     t

@@ -1,6 +1,6 @@
 -- The product is additive in each operand and below 256, from the laws of the sum. Assumes nothing.
 use mathlib.Core.Path.{_≡_, sym, ap, ap₂, _∙_}
-use Prim.Native.Nat.{ℕ, zero, suc, _+_, _*_, _/_, _%_, _^_, _<_}
+use Prim.Native.Nat.{ℕ, zero, suc, _*_, _/_, _%_, _<_}
 use native.Mathlib.Nat.{mod-lt, zero-lt-suc, add-zero}
 use native.Mathlib.Omega.{arith}
 use lib.Bits.{bitXor, xor-mod, xor-block}

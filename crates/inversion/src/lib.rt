@@ -7,7 +7,7 @@ use refusal::Check;
 use refusal::Refusal;
 use tower::Record;
 
-mod rows;
+mod machine;
 
 // A masked byte and its mask, or a refusal.
 pub enum Masked {
@@ -29,7 +29,7 @@ pub fn invert(masked: u8, mask: u8, record: Record) -> Masked
     let Check::Passed = check_record(record) else {
         return Masked::Refused(Refusal::Operand(2));
     };
-    let inverse = rows::invert(masked, mask, record);
+    let inverse = machine::invert(masked, mask, record);
     Masked::Byte(inverse, record.s)
 }
 
@@ -43,6 +43,6 @@ pub fn invert_points(masked: u8, mask: u8, record: Record, points: &mut [u8]) ->
     let Check::Passed = check_record(record) else {
         return Masked::Refused(Refusal::Operand(2));
     };
-    let inverse = rows::invert_points(masked, mask, record, points);
+    let inverse = machine::invert_points(masked, mask, record, points);
     Masked::Byte(inverse, record.s)
 }

@@ -1,7 +1,7 @@
 -- The changes of basis are additive and inverse to each other, and carry the product of the AES field to the tower's. Assumes nothing.
 use mathlib.Core.Path.{_≡_, refl, sym, ap, ap₂, _∙_}
 use mathlib.Core.List.{List, [], _∷_}
-use Prim.Native.Nat.{ℕ, _*_, _/_, _%_, _^_, _<_}
+use Prim.Native.Nat.{ℕ, _^_, _<_}
 use lib.ListN.{length}
 use Rattle.fips197.specs.Field.{field, _⊕_, _•_}
 use Rattle.fips197.proofs.Below.{eq1, eq2}

@@ -1,26 +1,26 @@
 -- Demand 3: over the 2^26 settings each of the 62 points takes each value as often as the table says. From the counts of the stages. Assumes nothing.
-use mathlib.Core.Path.{_≡_, refl, sym, ap, ap₂, _∙_, subst}
-use mathlib.Core.List.{List, [], _∷_}
+use mathlib.Core.Path.{_≡_, refl, sym, ap, ap₂, _∙_}
+use mathlib.Core.List.{List}
 use mathlib.Core.Bool.{Bool, true, false}
 use mathlib.Core.Logic.{⊎-elim}
-use Prim.Native.Nat.{ℕ, zero, suc, _+_, _-_, _*_, _^_, _<_, _≤_}
+use Prim.Native.Nat.{ℕ, zero, suc, _+_, _-_, _*_, _<_, _≤_}
 use native.Mathlib.Omega.{arith}
 use lib.Dec.{ltb, lit<}
 use lib.ListN.{getD, take, drop}
 use lib.Seq.{getD-take, getD-drop}
 use Rattle.fips197.specs.Field.{_⊕_}
 use Rattle.fips197.proofs.Below.{Each, Each.none, Each._▸_, each-at, below-or-not}
-use Rattle.fips197.proofs.Xor.{comm, lt}
+use Rattle.fips197.proofs.Xor.{comm}
 use Rattle.tower.specs.Tower.{hi, lo, join, pairProduct, pairInverse, nibbleProduct, nibbleInverse, exchange, inverseOver}
 use Rattle.tower.specs.Points.{masked, fourteen, eight, points, point}
-use Rattle.tower.specs.Counts.{sum, count, counted, pick, share, listed, table, theM, theQ, theR, theT, theS}
+use Rattle.tower.specs.Counts.{count, counted, pick, share, listed, table}
 use Rattle.tower.specs.Claims.{Demand3}
 use Rattle.tower.proofs.Split.{hi-xor, lo-xor, hi-lt, lo-lt, join-lt}
 use Rattle.tower.proofs.Level.{pairLaws, nibbleLaws}
 use Rattle.tower.proofs.Inversion.{point14, point28, maskedE, exchange-xor, bareB, bareC}
 use Rattle.tower.proofs.Sum.{sum-ext, sum-xor}
 use Rattle.tower.proofs.Total.{total, all-settings, first, second, alone, third, fourth, fifth, sixth, sum3, exchange-sum}
-use Rattle.tower.proofs.Stage.{is, fourteenCounts, eightCounts, fourteen-counted, eight-counted, nibbleShares, pairShares, Shares}
+use Rattle.tower.proofs.Stage.{is, fourteenCounts, eightCounts, fourteen-counted, eight-counted, nibbleShares, pairShares}
 
 total-ext : (f g : ℕ → ℕ → ℕ → ℕ → ℕ → ℕ) → ((m q r t s : ℕ) → r < 4 → t < 16 → f m q r t s ≡ g m q r t s) → total f ≡ total g
 total-ext f g e =

@@ -1,9 +1,9 @@
 -- The masked inversion answers the inverse under the mask S: one lemma for the fourteen and one for the eight, at both levels, from the field laws. Assumes nothing.
-use mathlib.Core.Path.{_≡_, refl, sym, ap, ap₂, _∙_}
-use Prim.Native.Nat.{ℕ, _^_, _<_}
+use mathlib.Core.Path.{_≡_, sym, ap, ap₂, _∙_}
+use Prim.Native.Nat.{ℕ, _<_}
 use lib.ListN.{getD}
 use Rattle.fips197.specs.Field.{_⊕_}
-use Rattle.fips197.proofs.Xor.{comm, sums}
+use Rattle.fips197.proofs.Xor.{sums}
 use Rattle.tower.specs.Tower.{hi, lo, join, scaledSquare, normOver, inverseOver, exchange, pairInverse, pairProduct, nibbleProduct, nibbleInverse, byteInverse}
 use Rattle.tower.specs.Points.{masked, fourteen, eight, point}
 use Rattle.tower.specs.Claims.{FieldLaws}

@@ -1,6 +1,6 @@
 -- What the arithmetic of the code computes is the tower's: splits and joins by the laws of bits, products by one computed test a level. Assumes nothing.
 use mathlib.Core.Path.{_≡_, refl, sym, ap, ap₂, _∙_}
-use mathlib.Core.List.{List, [], _∷_}
+use mathlib.Core.List.{List, _∷_}
 use Prim.Native.Nat.{ℕ, zero, suc, _+_, _-_, _*_, _/_, _%_, _^_, _<_, _≤_}
 use native.Mathlib.Nat.{mod-lt, mod-eq-of-lt, mod-mod, zero-lt-suc, zero-mul, one-mul}
 use native.Mathlib.Numerals.{add-one}
@@ -12,7 +12,7 @@ use lib.Pow.{mod-mod-pow}
 use lib.Pow as Pow
 use Rattle.fips197.specs.Field.{_⊕_, field}
 use Rattle.fips197.proofs.Below.{eq1, eq2}
-use Rattle.fips197.proofs.Xor.{assoc, zero-r, lt, two-pos}
+use Rattle.fips197.proofs.Xor.{assoc, zero-r, lt}
 use Rattle.tower.specs.Tower.{tower, hi, lo, join, scaledSquare, normOver, productOver, inverseOver, bitProduct, pairProduct, nibbleProduct, added}
 use Rattle.tower.specs.Claims.{FieldLaws}
 use Rattle.tower.proofs.Split.{lo-lt, lo-small}

@@ -1,16 +1,16 @@
 -- The field laws of the tower: one lemma from a level to the next, and from the bits up to pairs, nibbles and bytes. Assumes nothing.
-use mathlib.Core.Path.{_≡_, refl, sym, ap, ap₂, _∙_, subst}
-use Prim.Native.Nat.{ℕ, zero, suc, _+_, _-_, _*_, _/_, _%_, _^_, _<_}
+use mathlib.Core.Path.{_≡_, refl, sym, ap, ap₂, _∙_}
+use Prim.Native.Nat.{ℕ, zero, suc, _+_, _-_, _*_, _%_, _^_, _<_}
 use native.Mathlib.Nat.{mod-lt, not-suc-le-zero, mul-comm, mul-assoc, mod-eq-of-lt}
 use native.Mathlib.Omega.{arith}
 use lib.Bits.{xor-mod}
 use lib.Dec.{ltb, ltb→lt}
 use Rattle.fips197.specs.Field.{_⊕_, field}
-use Rattle.fips197.proofs.Below.{eq1, eq2, eq3, all-at, all-at2}
+use Rattle.fips197.proofs.Below.{eq1, eq3, all-at, all-at2}
 use Rattle.fips197.proofs.Xor.{sums, lt, two-pos}
-use Rattle.tower.specs.Tower.{tower, hi, lo, join, productOver, scaledSquare, normOver, inverseOver, bitProduct, pairProduct, exchange, pairInverse, nibbleProduct, nibbleInverse, byteProduct, byteInverse}
+use Rattle.tower.specs.Tower.{tower, hi, lo, join, productOver, scaledSquare, normOver, inverseOver, bitProduct, pairProduct, pairInverse, nibbleProduct, nibbleInverse, byteProduct, byteInverse}
 use Rattle.tower.specs.Claims.{FieldLaws, PairLaws, NibbleLaws, ByteLaws}
-use Rattle.tower.proofs.Split.{hi-xor, lo-xor, join-xor, join-lt, hi-join, lo-join, hi-lt, lo-lt}
+use Rattle.tower.proofs.Split.{hi-xor, lo-xor, join-xor, join-lt, hi-join, lo-join}
 
 module _ (k : ℕ) (times : ℕ → ℕ → ℕ) (one : ℕ) (inv : ℕ → ℕ) (L : FieldLaws k times one inv) where
   pub left-distributive : (x y z : ℕ) → times (x ⊕ y) z ≡ times x z ⊕ times y z

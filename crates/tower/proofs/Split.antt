@@ -1,5 +1,5 @@
 -- The halves of a number and their joining: additive, bounded, each undoing the other. From the library's laws of bits and powers. Assumes nothing.
-use mathlib.Core.Path.{_≡_, refl, sym, ap, ap₂, _∙_, subst}
+use mathlib.Core.Path.{_≡_, sym, ap, _∙_, subst}
 use Prim.Native.Nat.{ℕ, _+_, _*_, _/_, _%_, _^_, _<_}
 use native.Mathlib.Nat.{mod-lt, mod-eq-of-lt}
 use lib.Arith.{digits-lt}

@@ -1,5 +1,5 @@
 -- How often a point of the fourteen or of the eight has a value, over the three masks of that stage: one law for nibbles and pairs. Assumes nothing.
-use mathlib.Core.Path.{_≡_, refl, sym, ap, ap₂, _∙_}
+use mathlib.Core.Path.{_≡_, sym, ap, _∙_}
 use mathlib.Core.List.{List, [], _∷_}
 use mathlib.Core.Logic.{⊎-elim}
 use Prim.Native.Nat.{ℕ, zero, suc, _*_, _^_, _<_, _≤_}

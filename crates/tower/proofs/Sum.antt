@@ -1,7 +1,7 @@
 -- Sums over the numbers below n: equal summands, a product of ranges, and that adding a number to the variable permutes it. Assumes nothing.
 use mathlib.Core.Path.{_≡_, refl, sym, ap, ap₂, _∙_, subst}
-use Prim.Native.Nat.{ℕ, zero, suc, _+_, _*_, _/_, _%_, _^_, _<_, _≤_}
-use native.Mathlib.Nat.{le-refl, le-trans, le-suc, add-zero, zero-add, add-suc, add-comm, add-assoc, suc-mul, zero-mul, mul-comm, mod-lt, mod-eq-of-lt, zero-lt-suc, pow-suc, mul-one, div-lt-iff-lt-mul, div-add-mod'}
+use Prim.Native.Nat.{ℕ, zero, suc, _+_, _*_, _/_, _%_, _^_, _<_}
+use native.Mathlib.Nat.{le-refl, le-trans, le-suc, add-zero, zero-add, add-suc, add-comm, add-assoc, suc-mul, zero-mul, mod-lt, mod-eq-of-lt, zero-lt-suc, pow-suc, div-lt-iff-lt-mul, div-add-mod'}
 use native.Mathlib.Omega.{arith}
 use lib.Bits.{xor-block}
 use lib.Pow.{high, low}

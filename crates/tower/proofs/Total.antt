@@ -1,6 +1,6 @@
 -- The sum over all settings, mask by mask: what does not depend on a mask counts once for each of its values. Assumes nothing.
-use mathlib.Core.Path.{_≡_, refl, sym, ap, ap₂, _∙_, subst}
-use Prim.Native.Nat.{ℕ, zero, suc, _+_, _*_, _/_, _%_, _^_, _<_, _≤_}
+use mathlib.Core.Path.{_≡_, refl, ap, _∙_}
+use Prim.Native.Nat.{ℕ, _+_, _*_, _^_, _<_}
 use native.Mathlib.Omega.{arith}
 use Rattle.tower.specs.Tower.{hi, lo, exchange, tower}
 use Rattle.tower.specs.Counts.{sum, theM, theQ, theR, theT, theS}

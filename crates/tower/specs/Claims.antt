@@ -1,6 +1,6 @@
 -- What is claimed of the definitions of this crate. Each claim is proved in proofs/Claims.antt.
 use mathlib.Core.Path.{_≡_}
-use mathlib.Core.List.{List, [], _∷_}
+use mathlib.Core.List.{[], _∷_}
 use Prim.Native.Nat.{ℕ, _<_, _≤_, _^_}
 use Rattle.fips197.specs.Field.{_⊕_, _•_}
 use Rattle.tower.specs.Tower.{pairProduct, pairInverse, nibbleProduct, nibbleInverse, byteProduct, byteInverse, toTower, fromTower, fromColumns}

@@ -1,53 +1,40 @@
-use Rattle.inversion.proofs.Table.{answer-and-points}
-use Rattle.refusal.proofs.First.{first-stop, first-on, first-done, passed-is}
+-- `inversion::invert_points` meets its contract: from the answers of the two checks and the inner computation. Assumes nothing.
 use borrow.Author.Needs.{needs}
+use Rattle.refusal.proofs.First.{first-stop, first-on, first-done, passed-is}
+use Rattle.rows.proofs.Table.{answer-and-points}
 use Rattle.inversion.proofs.invert_points.Statement.{statement}
 use Rattle.inversion.proofs.invert_points.Tie as tie
-use Rattle.inversion.proofs.invert_points.Reads as reads
-use Rattle.inversion.proofs.invert_points.Lts as lts
-use Rattle.refusal.proofs.check_length.Reads as check-length-reads
-use Rattle.inversion.proofs.check_record.Reads as check-record-reads
-use Rattle.inversion.proofs.rows.invert_points.Reads as invert-points-reads
 
--- src/lib.rt:173:25
 check-length-requires : tie.Need-check-length-requires
 check-length-requires c κs = search needs
 
 enum-told : tie.Need-enum-told
 enum-told c = search needs
 
--- src/lib.rt:174:32
 enum-told-2 : tie.Need-enum-told-2
 enum-told-2 c = search needs
 
--- src/lib.rt:174:9
 returns : tie.Need-returns
 returns c = search first-stop
 
--- src/lib.rt:176:25
 check-record-requires : tie.Need-check-record-requires
 check-record-requires c κs = search needs
 
 enum-told-3 : tie.Need-enum-told-3
 enum-told-3 c = search needs
 
--- src/lib.rt:177:32
 enum-told-4 : tie.Need-enum-told-4
 enum-told-4 c = search needs
 
--- src/lib.rt:177:9
 returns-2 : tie.Need-returns-2
 returns-2 c = search (first-on, first-stop)
 
--- src/lib.rt:179:9
 invert-points-requires : tie.Need-invert-points-requires
 invert-points-requires c κs = search passed-is
 
--- src/lib.rt:170:1
 same-length : tie.Need-same-length
 same-length c = search needs
 
--- src/lib.rt:170:1
 returns-3 : tie.Need-returns-3
 returns-3 c = search (first-on, first-done, answer-and-points)
 

@@ -1,31 +1,24 @@
-use Rattle.refusal.proofs.First.{either-first, either-second}
+-- `refusal::check_both` meets its contract: from the answers of the two checks. Assumes nothing.
 use borrow.Author.Needs.{needs}
+use Rattle.refusal.proofs.First.{either-first, either-second}
 use Rattle.refusal.proofs.check_both.Statement.{statement}
 use Rattle.refusal.proofs.check_both.Tie as tie
-use Rattle.refusal.proofs.check_both.Reads as reads
-use Rattle.refusal.proofs.check_both.Lts as lts
-use Rattle.refusal.proofs.check_most.Reads as check-most-reads
 
--- src/lib.rt:34:25
 check-most-requires : tie.Need-check-most-requires
 check-most-requires c κs = search needs
 
 enum-told : tie.Need-enum-told
 enum-told c = search needs
 
--- src/lib.rt:35:9
 enum-told-2 : tie.Need-enum-told-2
 enum-told-2 c = search needs
 
--- src/lib.rt:35:9
 returns : tie.Need-returns
 returns c = search either-first
 
--- src/lib.rt:37:5
 check-most-requires-2 : tie.Need-check-most-requires-2
 check-most-requires-2 c κs = search needs
 
--- src/lib.rt:31:1
 returns-2 : tie.Need-returns-2
 returns-2 c = search either-second
 

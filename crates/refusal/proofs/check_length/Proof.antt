@@ -1,16 +1,13 @@
-use borrow.Author.Tests.{eq-eqb, ne-eqb}
+-- `refusal::check_length` meets its contract: from the one comparison. Assumes nothing.
 use mathlib.Core.Bool.{not}
 use mathlib.Core.Path.{sym, ap}
+use borrow.Author.Tests.{eq-eqb, ne-eqb}
 use Rattle.refusal.proofs.check_length.Statement.{statement}
 use Rattle.refusal.proofs.check_length.Tie as tie
-use Rattle.refusal.proofs.check_length.Reads as reads
-use Rattle.refusal.proofs.check_length.Lts as lts
 
--- src/lib.rt:147:1
 returns : tie.Need-returns
 returns c = sym (ap not (eq-eqb _ _ (c .if1 .taken)))
 
--- src/lib.rt:147:1
 returns-2 : tie.Need-returns-2
 returns-2 c = sym (ap not (ne-eqb _ _ (c .if1 .left)))
 

@@ -1,3 +1,4 @@
+-- `tower::change` meets its contract: the loop's invariant: the columns passed, added, and what the rest add up to. Assumes nothing.
 use mathlib.Core.Path.{_≡_}
 use Prim.Native.Nat.{ℕ, _≤_, _-_}
 use native.Mathlib.Omega.{arith}
@@ -9,9 +10,6 @@ use Rattle.tower.specs.Tower.{added}
 use Rattle.tower.proofs.Leaf.{change-next, change-all}
 use Rattle.tower.proofs.change.Statement.{statement}
 use Rattle.tower.proofs.change.Tie as tie
-use Rattle.tower.proofs.change.Reads as reads
-use Rattle.tower.proofs.change.Lts as lts
-use Rattle.tower.proofs.column_at.Reads as column-at-reads
 
 abbrev Inv-loop : tie.InvT-loop
 Inv-loop columns x i₀ sum₀ i sum = (i ≤ 8) × (_≡_ {A = ℕ} (sum ⊕ added (drop i columns) x) (added columns x))
@@ -19,48 +17,37 @@ Inv-loop columns x i₀ sum₀ i sum = (i ≤ 8) × (_≡_ {A = ℕ} (sum ⊕ ad
 abbrev μ-loop : tie.MeasureT-loop
 μ-loop columns x i₀ sum₀ i sum = 8 - i
 
--- src/arithmetic.rt:145:5
 loop-holds : tie.Need-loop-holds Inv-loop μ-loop
 loop-holds c = (omega arith, zero-l _)
 
--- src/arithmetic.rt:146:27
 sub-bit : tie.Need-sub-bit Inv-loop μ-loop
 sub-bit c = search needs
 
--- src/arithmetic.rt:146:26
 cast-bit : tie.Need-cast-bit Inv-loop μ-loop
 cast-bit c = search needs
 
--- src/arithmetic.rt:146:26
 cast-bit-2 : tie.Need-cast-bit-2 Inv-loop μ-loop
 cast-bit-2 c = search needs
 
--- src/arithmetic.rt:146:20
 shr-bit : tie.Need-shr-bit Inv-loop μ-loop
 shr-bit c = search needs
 
--- src/arithmetic.rt:147:31
 element-copy-out-column-at : tie.Need-element-copy-out-column-at Inv-loop μ-loop
 element-copy-out-column-at c = search needs
 
--- src/arithmetic.rt:147:21
 column-at-requires : tie.Need-column-at-requires Inv-loop μ-loop
 column-at-requires c κs = search needs
 
--- src/arithmetic.rt:148:9
 add-i : tie.Need-add-i Inv-loop μ-loop
 add-i c = search needs
 
--- src/arithmetic.rt:145:5
 loop-less : tie.Need-loop-less Inv-loop μ-loop
 loop-less c = search needs
 
--- src/arithmetic.rt:145:5
 loop-again : tie.Need-loop-again Inv-loop μ-loop
 unfolding _⊕_
 loop-again c = (omega arith, change-next _ _ (c .before .before .before .loop .i) (c .before .before .before .loop .sum) _ (c .before .before .before .before .pre) (omega arith) (c .column-at .ensures) (c .before .before .before .loop .inv .1))
 
--- src/arithmetic.rt:139:1
 returns : tie.Need-returns Inv-loop μ-loop
 returns c = change-all _ _ (c .before .loop .i) _ (c .before .before .pre) (omega arith) (c .before .loop .inv .1)
 

@@ -1,15 +1,12 @@
-use Rattle.tower.proofs.Leaf.{column}
+-- `tower::column_at` meets its contract: a byte masked by a bit is the bit times the byte. Assumes nothing.
 use borrow.Author.Needs.{needs}
+use Rattle.tower.proofs.Leaf.{column}
 use Rattle.tower.proofs.column_at.Statement.{statement}
 use Rattle.tower.proofs.column_at.Tie as tie
-use Rattle.tower.proofs.column_at.Reads as reads
-use Rattle.tower.proofs.column_at.Lts as lts
 
--- src/arithmetic.rt:135:15
 mul-result : tie.Need-mul-result
 mul-result c = search needs
 
--- src/arithmetic.rt:131:1
 returns : tie.Need-returns
 returns c = column (c .args .column) (c .args .bit) (search needs) (c .pre)
 

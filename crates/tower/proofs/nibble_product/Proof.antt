@@ -1,32 +1,24 @@
-use Rattle.refusal.proofs.First.{first-stop, first-on, first-done}
+-- `tower::nibble_product` meets its contract: from the check's answer and the product. Assumes nothing.
 use borrow.Author.Needs.{needs}
+use Rattle.refusal.proofs.First.{first-stop, first-on, first-done}
 use Rattle.tower.proofs.nibble_product.Statement.{statement}
 use Rattle.tower.proofs.nibble_product.Tie as tie
-use Rattle.tower.proofs.nibble_product.Reads as reads
-use Rattle.tower.proofs.nibble_product.Lts as lts
-use Rattle.tower.proofs.low.nibble_times.Reads as nibble-times-reads
-use Rattle.refusal.proofs.check_both.Reads as check-both-reads
 
--- src/lib.rt:116:25
 check-both-requires : tie.Need-check-both-requires
 check-both-requires c κs = search needs
 
 enum-told : tie.Need-enum-told
 enum-told c = search needs
 
--- src/lib.rt:117:33
 enum-told-2 : tie.Need-enum-told-2
 enum-told-2 c = search needs
 
--- src/lib.rt:117:9
 returns : tie.Need-returns
 returns c = search first-stop
 
--- src/lib.rt:119:20
 nibble-times-requires : tie.Need-nibble-times-requires
 nibble-times-requires c κs = search needs
 
--- src/lib.rt:113:1
 returns-2 : tie.Need-returns-2
 returns-2 c = search (first-on, first-done)
 

@@ -1,16 +1,12 @@
-use Rattle.tower.specs.Tower.{toTower}
+-- `tower::to_tower` meets its contract: from the change of basis by these columns. Assumes nothing.
 use borrow.Author.Needs.{needs}
+use Rattle.tower.specs.Tower.{toTower}
 use Rattle.tower.proofs.to_tower.Statement.{statement}
 use Rattle.tower.proofs.to_tower.Tie as tie
-use Rattle.tower.proofs.to_tower.Reads as reads
-use Rattle.tower.proofs.to_tower.Lts as lts
-use Rattle.tower.proofs.change.Reads as change-reads
 
--- src/lib.rt:49:5
 change-requires : tie.Need-change-requires
 change-requires c κs = search needs
 
--- src/lib.rt:45:1
 returns : tie.Need-returns
 unfolding toTower
 returns c = c .change .ensures

@@ -1,12 +1,10 @@
-use lib.Bits.{and-mask}
+-- `tower::halves::high_pair` meets its contract: a shift is a division, a mask a remainder. Assumes nothing.
 use Prim.Native.Nat.{_/_}
+use lib.Bits.{and-mask}
 use Rattle.tower.specs.Tower.{hi}
 use Rattle.tower.proofs.halves.high_pair.Statement.{statement}
 use Rattle.tower.proofs.halves.high_pair.Tie as tie
-use Rattle.tower.proofs.halves.high_pair.Reads as reads
-use Rattle.tower.proofs.halves.high_pair.Lts as lts
 
--- src/arithmetic.rt:24:1
 returns : tie.Need-returns
 unfolding hi
 returns c = and-mask (c .args .x / 4) 2

@@ -1,12 +1,10 @@
+-- `tower::halves::join_nibbles` meets its contract: from the law of joining, at four bits. Assumes nothing.
+use native.Mathlib.Omega.{arith}
 use Rattle.tower.proofs.Leaf.{join-made}
 use Rattle.tower.proofs.Split.{lo-lt}
-use native.Mathlib.Omega.{arith}
 use Rattle.tower.proofs.halves.join_nibbles.Statement.{statement}
 use Rattle.tower.proofs.halves.join_nibbles.Tie as tie
-use Rattle.tower.proofs.halves.join_nibbles.Reads as reads
-use Rattle.tower.proofs.halves.join_nibbles.Lts as lts
 
--- src/arithmetic.rt:18:1
 returns : tie.Need-returns
 returns c = join-made 4 (c .args .high) (c .args .low) (let h = lo-lt 4 (c .args .high) in omega arith)
 

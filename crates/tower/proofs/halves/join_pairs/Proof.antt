@@ -1,12 +1,10 @@
+-- `tower::halves::join_pairs` meets its contract: from the law of joining, at two bits. Assumes nothing.
+use native.Mathlib.Omega.{arith}
 use Rattle.tower.proofs.Leaf.{join-made}
 use Rattle.tower.proofs.Split.{lo-lt}
-use native.Mathlib.Omega.{arith}
 use Rattle.tower.proofs.halves.join_pairs.Statement.{statement}
 use Rattle.tower.proofs.halves.join_pairs.Tie as tie
-use Rattle.tower.proofs.halves.join_pairs.Reads as reads
-use Rattle.tower.proofs.halves.join_pairs.Lts as lts
 
--- src/arithmetic.rt:36:1
 returns : tie.Need-returns
 returns c = join-made 2 (c .args .high) (c .args .low) (let h = lo-lt 2 (c .args .high) in omega arith)
 

@@ -1,11 +1,9 @@
+-- `tower::halves::low_nibble` meets its contract: a mask is a remainder. Assumes nothing.
 use lib.Bits.{and-mask}
 use Rattle.tower.specs.Tower.{lo}
 use Rattle.tower.proofs.halves.low_nibble.Statement.{statement}
 use Rattle.tower.proofs.halves.low_nibble.Tie as tie
-use Rattle.tower.proofs.halves.low_nibble.Reads as reads
-use Rattle.tower.proofs.halves.low_nibble.Lts as lts
 
--- src/arithmetic.rt:12:1
 returns : tie.Need-returns
 unfolding lo
 returns c = and-mask (c .args .x) 4

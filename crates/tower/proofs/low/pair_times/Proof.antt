@@ -1,10 +1,8 @@
+-- `tower::low::pair_times` meets its contract: from the computed test of the pair product. Assumes nothing.
 use Rattle.tower.proofs.Leaf.{pair-made}
 use Rattle.tower.proofs.low.pair_times.Statement.{statement}
 use Rattle.tower.proofs.low.pair_times.Tie as tie
-use Rattle.tower.proofs.low.pair_times.Reads as reads
-use Rattle.tower.proofs.low.pair_times.Lts as lts
 
--- src/arithmetic.rt:48:1
 returns : tie.Need-returns
 returns c = pair-made (c .args .x) (c .args .y)
 
