@@ -1,5 +1,5 @@
 -- How often a point of the fourteen or of the eight has a value, over the three masks of that stage: one law for nibbles and pairs. Assumes nothing.
-use mathlib.Core.Path.{_≡_, sym, ap, _∙_}
+use mathlib.Core.Path.{_≡_, sym, ap, ap₂, _∙_}
 use mathlib.Core.List.{List, [], _∷_}
 use mathlib.Core.Logic.{⊎-elim}
 use Prim.Native.Nat.{ℕ, zero, suc, _*_, _^_, _<_, _≤_}
@@ -11,7 +11,7 @@ use lib.ListN.{getD}
 use lib.Pow.{pow-pos}
 use Rattle.fips197.specs.Field.{_⊕_, field}
 use Rattle.fips197.proofs.Below.{eq1, below-or-not, Each, Each.none, Each._▸_}
-use Rattle.fips197.proofs.Xor.{sums, lt}
+use Rattle.fips197.proofs.Xor.{assoc, comm, zero-l, zero-r, sums, lt}
 use Rattle.tower.specs.Tower.{tower, scaledSquare, pairProduct, pairInverse, nibbleProduct, nibbleInverse}
 use Rattle.tower.specs.Counts.{sum, one, share}
 use Rattle.tower.specs.Points.{fourteen, eight}
@@ -44,11 +44,27 @@ module _ (k : ℕ) (times : ℕ → ℕ → ℕ) (unit : ℕ) (inv : ℕ → ℕ
       sum-each n _ _ (λ z lz. ap (λ (w : ℕ). is w v) (e x y z))) ∙ ap (λ (s : ℕ). n * s) (sum-xor k (λ y. is (times (x ⊕ h) y) v) l pl))
       ∙ ap (λ (s : ℕ). n * s) (sum-xor k (λ x. sum n (λ y. is (times x y) v)) h ph ∙ products)
 
-  -- a sum that begins with a mask of its own
-  runs : (f : ℕ → ℕ → ℕ → ℕ) → ((x y z : ℕ) → f x y z ≡ z ⊕ f x y 0) → ((x y : ℕ) → f x y 0 < n) → sum3 n (λ x y z. is (f x y z) v) ≡ n * (n * u)
-  runs f e b =
+  -- a running sum that begins with a mask of its own, one term at a time
+  record Running (f : ℕ → ℕ → ℕ → ℕ) : Type 0 where
+    apart : (x y z : ℕ) → f x y z ≡ z ⊕ f x y 0
+    small : (x y : ℕ) → f x y 0 < n
+
+  begun : (h : ℕ → ℕ → ℕ) → ((x y : ℕ) → h x y < n) → Running (λ x y z. z ⊕ h x y)
+  begun h b = record {
+    apart = λ x y z. ap (λ (w : ℕ). z ⊕ w) (sym (zero-l (h x y)));
+    small = λ x y. lt k 0 (h x y) (pow-pos k) (b x y);
+  }
+
+  added : {f : ℕ → ℕ → ℕ → ℕ} → Running f → (h : ℕ → ℕ → ℕ) → ((x y : ℕ) → h x y < n) → Running (λ x y z. f x y z ⊕ h x y)
+  added {f} r h b = record {
+    apart = λ x y z. ap (λ (w : ℕ). w ⊕ h x y) (r .apart x y z) ∙ assoc z (f x y 0) (h x y);
+    small = λ x y. lt k (f x y 0) (h x y) (r .small x y) (b x y);
+  }
+
+  runs : {f : ℕ → ℕ → ℕ → ℕ} → Running f → sum3 n (λ x y z. is (f x y z) v) ≡ n * (n * u)
+  runs {f} r =
       sum-each n _ (n * u) (λ x lx. sum-each n _ u (λ y ly.
-      sum-ext n _ (λ z. is (z ⊕ f x y 0) v) (λ z lz. ap (λ (w : ℕ). is w v) (e x y z)) ∙ sum-xor k (λ z. is z v) (f x y 0) (b x y) ∙ plain))
+      sum-ext n _ (λ z. is (z ⊕ f x y 0) v) (λ z lz. ap (λ (w : ℕ). is w v) (r .apart x y z)) ∙ sum-xor k (λ z. is z v) (f x y 0) (r .small x y) ∙ plain))
 
   -- a permutation of what the second mask is added to
   lines : (f : ℕ → ℕ → ℕ → ℕ) (h φ : ℕ → ℕ) → sum n (λ x. is (φ x) v) ≡ u → ((x : ℕ) → x < n → h x < n) → ((x y z : ℕ) → f x y z ≡ φ (y ⊕ h x))
@@ -68,21 +84,27 @@ module _ (k : ℕ) (times : ℕ → ℕ → ℕ) (unit : ℕ) (inv : ℕ → ℕ
     pub fourteen-counted : Each (λ j. sum3 n (λ x y z. is (at14 j x y z) v) ≡ getD (fourteenCounts (n * (n * u)) (n * p)) j 0) 14
     unfolding fourteen scaledSquare
     fourteen-counted =
+        let r9 = begun _ (λ x y. L .bounded nu (times (a ⊕ x ⊕ (b ⊕ y)) (a ⊕ x ⊕ (b ⊕ y)))) in
+        let r10 = added r9 _ (λ x y. L .bounded nu (times (x ⊕ y) (x ⊕ y))) in
+        let r11 = added r10 _ (λ x y. L .bounded (a ⊕ x) (b ⊕ y)) in
+        let r12 = added r11 _ (λ x y. L .bounded (a ⊕ x) y) in
+        let r13 = added r12 _ (λ x y. L .bounded (b ⊕ y) x) in
+        let r14 = added r13 _ (λ x y. L .bounded x y) in
         none
         ▸ lines (at14 0) (λ x. a ⊕ b ⊕ x) (λ y. y) plain (λ x l. search lt) (λ x y z. simp sums)
         ▸ lines (at14 1) (λ x. a ⊕ b ⊕ x) (scaledSquare times nu) squares (λ x l. search lt) (λ x y z. simp sums)
-        ▸ lines (at14 2) (λ x. x) (λ y. y) plain (λ x l. l) (λ x y z. simp sums)
-        ▸ lines (at14 3) (λ x. x) (scaledSquare times nu) squares (λ x l. l) (λ x y z. simp sums)
-        ▸ prods (at14 4) a b ha hb (λ x y z. simp sums)
-        ▸ prods (at14 5) a 0 ha zero-lt (λ x y z. simp sums)
-        ▸ prods (at14 6) 0 b zero-lt hb (λ x y z. simp (sums, L .commutative))
-        ▸ prods (at14 7) 0 0 zero-lt zero-lt (λ x y z. simp sums)
-        ▸ runs (at14 8) (λ x y z. simp sums) (λ x y. search (lt, L .bounded, zero-lt) depth 9)
-        ▸ runs (at14 9) (λ x y z. simp sums) (λ x y. search (lt, L .bounded, zero-lt) depth 9)
-        ▸ runs (at14 10) (λ x y z. simp sums) (λ x y. search (lt, L .bounded, zero-lt) depth 9)
-        ▸ runs (at14 11) (λ x y z. simp sums) (λ x y. search (lt, L .bounded, zero-lt) depth 9)
-        ▸ runs (at14 12) (λ x y z. simp sums) (λ x y. search (lt, L .bounded, zero-lt) depth 9)
-        ▸ runs (at14 13) (λ x y z. simp sums) (λ x y. search (lt, L .bounded, zero-lt) depth 9)
+        ▸ lines (at14 2) (λ x. x) (λ y. y) plain (λ x l. l) (λ x y z. comm x y)
+        ▸ lines (at14 3) (λ x. x) (scaledSquare times nu) squares (λ x l. l) (λ x y z. ap (scaledSquare times nu) (comm x y))
+        ▸ prods (at14 4) a b ha hb (λ x y z. ap₂ times (comm a x) (comm b y))
+        ▸ prods (at14 5) a 0 ha zero-lt (λ x y z. ap₂ times (comm a x) (sym (zero-r y)))
+        ▸ prods (at14 6) 0 b zero-lt hb (λ x y z. L .commutative (b ⊕ y) x ∙ ap₂ times (sym (zero-r x)) (comm b y))
+        ▸ prods (at14 7) 0 0 zero-lt zero-lt (λ x y z. ap₂ times (sym (zero-r x)) (sym (zero-r y)))
+        ▸ runs r9
+        ▸ runs r10
+        ▸ runs r11
+        ▸ runs r12
+        ▸ runs r13
+        ▸ runs r14
 
     abbrev at8 : ℕ → ℕ → ℕ → ℕ → ℕ
     at8 j x y z = getD (eight times (a ⊕ x) x (b ⊕ y) y z) j 0
@@ -90,15 +112,19 @@ module _ (k : ℕ) (times : ℕ → ℕ → ℕ) (unit : ℕ) (inv : ℕ → ℕ
     pub eight-counted : Each (λ j. sum3 n (λ x y z. is (at8 j x y z) v) ≡ getD (eightCounts (n * (n * u)) (n * p)) j 0) 8
     unfolding eight
     eight-counted =
+        let r5 = begun _ (λ x y. L .bounded (a ⊕ x) (b ⊕ y)) in
+        let r6 = added r5 _ (λ x y. L .bounded (a ⊕ x) y) in
+        let r7 = added r6 _ (λ x y. L .bounded x (b ⊕ y)) in
+        let r8 = added r7 _ (λ x y. L .bounded x y) in
         none
-        ▸ prods (at8 0) a b ha hb (λ x y z. simp sums)
-        ▸ prods (at8 1) a 0 ha zero-lt (λ x y z. simp sums)
-        ▸ prods (at8 2) 0 b zero-lt hb (λ x y z. simp sums)
-        ▸ prods (at8 3) 0 0 zero-lt zero-lt (λ x y z. simp sums)
-        ▸ runs (at8 4) (λ x y z. simp sums) (λ x y. search (lt, L .bounded, zero-lt) depth 9)
-        ▸ runs (at8 5) (λ x y z. simp sums) (λ x y. search (lt, L .bounded, zero-lt) depth 9)
-        ▸ runs (at8 6) (λ x y z. simp sums) (λ x y. search (lt, L .bounded, zero-lt) depth 9)
-        ▸ runs (at8 7) (λ x y z. simp sums) (λ x y. search (lt, L .bounded, zero-lt) depth 9)
+        ▸ prods (at8 0) a b ha hb (λ x y z. ap₂ times (comm a x) (comm b y))
+        ▸ prods (at8 1) a 0 ha zero-lt (λ x y z. ap₂ times (comm a x) (sym (zero-r y)))
+        ▸ prods (at8 2) 0 b zero-lt hb (λ x y z. ap₂ times (sym (zero-r x)) (comm b y))
+        ▸ prods (at8 3) 0 0 zero-lt zero-lt (λ x y z. ap₂ times (sym (zero-r x)) (sym (zero-r y)))
+        ▸ runs r5
+        ▸ runs r6
+        ▸ runs r7
+        ▸ runs r8
 
 -- ---- how often a value comes up, by one computed test a table; a value that is no nibble or no pair never does
 

@@ -42,13 +42,14 @@ theS w = w % 2 ^ 8
 unfoldable pub counted : ℕ → ℕ → ℕ → ℕ
 counted n A v = count (2 ^ 26) (λ w. eqb (point n (A ⊕ theM w) (theM w) (theQ w) (theR w) (theT w) (theS w)) v)
 
--- The table: the points of a row, from .. to; the values, below 16 in nibbles and below 4 in pairs; how often zero and each other value.
+-- A row of the table: its points, from .. to; its values, below 16 in nibbles and below 4 in pairs; how often zero and each other value.
 pub record Row : Type 0 where
   pub points : List (ℕ × ℕ)
   pub values : ℕ
   pub zeros : ℕ
   pub others : ℕ
 
+-- nibble products, pair products, other nibbles, other pairs
 abbrev pub table : List Row
 table =
     record { points = (5, 8) ∷ (47, 50) ∷ (55, 58) ∷ []; values = 16; zeros = 8126464; others = 3932160 }
