@@ -1,2 +1,3 @@
 pub mod Field
+pub mod Cipher
 pub mod Claims

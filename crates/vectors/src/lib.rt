@@ -1,0 +1,1 @@
+// The worked examples of FIPS 197, computed by its definitions. No code.
