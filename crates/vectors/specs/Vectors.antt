@@ -1,9 +1,9 @@
 -- FIPS 197's worked examples: what the definitions compute, each beside what the standard prints.
 use Prim.Native.Nat.{ℕ}
 use mathlib.Core.Path.{_≡_}
-use mathlib.Core.List.{List, [], _∷_, _++_}
+use mathlib.Core.List.{List, [], _∷_}
 use lib.ListN.{take, drop}
-use Rattle.fips197.specs.Cipher.{cipher, invCipher, keyExpansion, word}
+use Rattle.fips197.specs.Cipher.{cipher, invCipher, keyExpansion}
 
 -- appendix A: the keys of the three expansions
 abbrev key16 : List ℕ
