@@ -26,9 +26,13 @@ pub affine-on : (b : ℕ) → b < 256 → affine (invAffine b) ≡ b
 unfolding fips field
 affine-on = eq1 256 (λ b. affine (invAffine b)) (λ b. b) tt
 
-inv-affine-lt : (b : ℕ) → b < 256 → invAffine b < 256
+pub inv-affine-lt : (b : ℕ) → b < 256 → invAffine b < 256
 unfolding fips field
 inv-affine-lt b h = ltb→lt (invAffine b) 256 (all-at 256 (λ b. ltb (invAffine b) 256) tt b h)
+
+pub inv-linear-lt : (b : ℕ) → b < 256 → invLinear b < 256
+unfolding fips field
+inv-linear-lt b h = ltb→lt (invLinear b) 256 (all-at 256 (λ b. ltb (invLinear b) 256) tt b h)
 
 pub affine-lt : (b : ℕ) → b < 256 → affine b < 256
 unfolding fips field

@@ -47,7 +47,7 @@ xtime-lt : (a : ℕ) → a < 256 → xtime a < 256
 unfolding field
 xtime-lt a h = ltb→lt (xtime a) 256 (all-at 256 (λ a. ltb (xtime a) 256) tt a h)
 
-bit-times-lt : (c a : ℕ) → c < 2 → a < 256 → c * a < 256
+pub bit-times-lt : (c a : ℕ) → c < 2 → a < 256 → c * a < 256
 bit-times-lt zero a h l = omega arith
 bit-times-lt (suc zero) a h l = omega arith
 bit-times-lt (suc (suc c)) a h l = absurd (omega arith)

@@ -1,15 +1,16 @@
 -- What a check's answer makes of `first`, for the proofs of calls: it stops there, or goes on to the next. Assumes nothing.
 use Prim.Native.Nat.{ℕ}
-use mathlib.Core.Path.{_≡_, sym, ap, _∙_}
+use mathlib.Core.Path.{_≡_, refl, sym, ap, _∙_}
 use mathlib.Core.List.{List, [], _∷_}
-use mathlib.Core.Bool.{Bool, true}
+use mathlib.Core.Bool.{Bool, true, false}
+use native.Mathlib.Omega.{arith}
 use lib.Dec.{eqb}
 use borrow.Author.Tests.{eqb-true, not-false}
 use Rattle.refusal.specs.declared.Refusal.{Refusal}
 use Rattle.refusal.specs.declared.Check.{Check}
 use Rattle.refusal.specs.declared.Check.the-variants.{Passed, Failed}
 use Rattle.refusal.specs.Refusal.{refusal, failed}
-use Rattle.refusal.specs.Answer.{first, either, isNot}
+use Rattle.refusal.specs.Answer.{Answer, done, refused, first, either, isNot}
 
 module _ {X : Type 0} (n : ℕ) (b : Bool) (checks : List (ℕ × Bool)) (deny : Refusal → X) (give x : X) (k : Check) where
   pub first-stop : failed k ≡ b → k ≡ Failed → x ≡ deny (refusal n) → x ≡ first ((n, b) ∷ checks) deny give
@@ -34,3 +35,21 @@ either-first a b k e f = ap (λ (t : Bool). either t b) (sym (ap failed f) ∙ e
 
 pub either-second : (a b : Bool) (k j : Check) → failed k ≡ a → k ≡ Passed → failed j ≡ b → failed j ≡ either a b
 either-second a b k j e p h = h ∙ ap (λ (t : Bool). either t b) (sym (ap failed p) ∙ e)
+
+-- An answer passed on from a call below with the same checks. `tell` is what it says: the call's own refusal, or done.
+module _ {X A : Type 0} (deny : Refusal → X) (tell : X → Answer A) (tells : (r : Refusal) → tell (deny r) ≡ refused r) where
+  pub refusal-passed : (checks : List (ℕ × Bool)) (give give′ x : X) (r : Refusal) (p : A) → tell x ≡ refused r → tell give ≡ done p
+      → x ≡ first checks deny give → x ≡ first checks deny give′
+  unfolding first
+  refusal-passed [] give give′ x r p t g e = let z : _≡_ {A = ℕ} 0 1 = cc in absurd (omega arith)
+  refusal-passed ((n, true) ∷ checks) give give′ x r p t g e = e
+  refusal-passed ((n, false) ∷ checks) give give′ x r p t g e = refusal-passed checks give give′ x r p t g e
+
+  pub answer-passed : (checks : List (ℕ × Bool)) (give give′ x : X) (v : A) → tell x ≡ done v → x ≡ first checks deny give
+      → (x ≡ give) × (give′ ≡ first checks deny give′)
+  unfolding first
+  answer-passed [] give give′ x v t e = (e, refl)
+  answer-passed ((n, true) ∷ checks) give give′ x v t e =
+      let f : refused (refusal n) ≡ done v = sym (tells (refusal n)) ∙ ap tell (sym e) ∙ t in
+      let z : _≡_ {A = ℕ} 0 1 = cc in absurd (omega arith)
+  answer-passed ((n, false) ∷ checks) give give′ x v t e = answer-passed checks give give′ x v t e

@@ -1,16 +1,23 @@
 -- The changes of basis are additive and inverse to each other, and carry the product of the AES field to the tower's. Assumes nothing.
 use mathlib.Core.Path.{_≡_, refl, sym, ap, ap₂, _∙_}
 use mathlib.Core.List.{List, [], _∷_}
-use Prim.Native.Nat.{ℕ, _^_, _<_}
+use Prim.Native.Nat.{ℕ, _/_, _%_, _^_, _<_}
+use mathlib.Core.Bool.{Bool, true}
+use native.Mathlib.Nat.{mod-lt}
+use lib.Dec.{T, ltb, ltb→lt, lit<}
 use lib.ListN.{length}
 use Rattle.fips197.specs.Field.{field, _⊕_, _•_}
-use Rattle.fips197.proofs.Below.{eq1, eq2}
-use Rattle.fips197.proofs.Xor.{self, swap4}
+use Rattle.fips197.proofs.Below.{eq1, eq2, both, both-left, both-right}
+use Rattle.fips197.proofs.Xor.{self, swap4, lt, two-pos}
 use Rattle.fips197.proofs.Additive.{Additive, agree, bit-times}
-use Rattle.fips197.proofs.Field.{product-left, product-right}
+use Rattle.fips197.proofs.Field.{product-left, product-right, bit-times-lt}
 use Rattle.tower.specs.Tower.{tower, added, fromColumns, toColumns, fromTower, toTower, byteProduct, byteInverse}
 use Rattle.tower.specs.Claims.{ChangesInverse, TowerIsField}
 use Rattle.tower.proofs.Level.{left-distributive, byteLaws}
+
+abbrev allBytes : List ℕ → Bool
+allBytes [] = true
+allBytes (c ∷ cs) = both (ltb c 256) (allBytes cs)
 
 pub added-additive : (cs : List ℕ) → Additive (added cs)
 unfolding added
@@ -24,6 +31,20 @@ to-additive = added-additive toColumns
 pub from-additive : Additive fromTower
 unfolding fromTower
 from-additive = added-additive fromColumns
+
+-- a change of basis by bytes gives bytes, whatever number it is given
+added-lt : (cs : List ℕ) → T (allBytes cs) → (x : ℕ) → added cs x < 256
+unfolding added
+added-lt [] t x = lit< tt
+added-lt (c ∷ cs) t x = lt 8 _ _ (bit-times-lt (x / 2 ^ length cs % 2) c (mod-lt _ two-pos) (ltb→lt c 256 (both-left (ltb c 256) (allBytes cs) t))) (added-lt cs (both-right (ltb c 256) (allBytes cs) t) x)
+
+pub to-lt : (x : ℕ) → toTower x < 256
+unfolding toTower
+to-lt = added-lt toColumns tt
+
+pub from-lt : (x : ℕ) → fromTower x < 256
+unfolding fromTower
+from-lt = added-lt fromColumns tt
 
 -- that the two are inverse, once over both tables: on the powers of two, and so everywhere
 pub changes-inverse : ChangesInverse

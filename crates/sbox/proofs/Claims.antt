@@ -1,0 +1,39 @@
+-- Every claim of specs/Claims.antt, proved: the inverse by one computed test over all bytes, the S-box from the masked inversion and the additivity of its ways. Assumes nothing.
+use mathlib.Core.Path.{_≡_, sym, ap, _∙_}
+use Prim.Native.Nat.{ℕ, _<_}
+use Rattle.fips197.specs.Field.{field, _⊕_, inverse}
+use Rattle.fips197.specs.Cipher.{linear, affine, sbox, invLinear, invAffine, invSbox}
+use Rattle.fips197.proofs.Below.{eq1}
+use Rattle.fips197.proofs.Xor.{sums, lt}
+use Rattle.fips197.proofs.Affine.{linear-additive, inv-linear-additive, inv-affine-lt, inv-linear-lt}
+use Rattle.tower.specs.Tower.{tower, toTower, fromTower, byteInverse}
+use Rattle.tower.specs.Points.{maskedInverse}
+use Rattle.tower.specs.Claims.{Good}
+use Rattle.tower.specs.declared.Record.{Record}
+use Rattle.tower.proofs.Basis.{to-additive, from-additive, to-lt}
+use Rattle.tower.proofs.Claims.{inversion-is-right}
+use Rattle.sbox.specs.declared.Direction.the-variants.{Encrypt, Decrypt}
+use Rattle.sbox.specs.Sbox.{enterData, enterMask, leaveData, leaveMask, newByte, newMask}
+use Rattle.sbox.specs.Claims as claims
+
+pub inverse-is-field : claims.InverseIsField
+unfolding tower field
+inverse-is-field = eq1 256 (λ a. fromTower (byteInverse (toTower a))) inverse tt
+
+-- the masked inversion between two bytes of the AES field: brought back and without its mask, the inverse of the sum
+between : (d m : ℕ) (ρ : Record) → d < 256 → m < 256 → Good ρ → fromTower (maskedInverse (toTower d) (toTower m) ρ) ⊕ fromTower (ρ .s) ≡ inverse (d ⊕ m)
+between d m ρ hd hm good =
+    sym (from-additive _ (ρ .s))
+    ∙ ap fromTower (inversion-is-right (toTower d) (toTower m) ρ (to-lt d) (to-lt m) good ∙ ap byteInverse (sym (to-additive d m)))
+    ∙ inverse-is-field (d ⊕ m) (lt 8 d m hd hm)
+
+past : (x y k : ℕ) → x ⊕ k ⊕ y ≡ x ⊕ y ⊕ k
+past x y k = simp sums
+
+pub box-is-right : claims.BoxIsRight
+unfolding newByte newMask enterData enterMask leaveData leaveMask sbox affine invSbox invAffine
+box-is-right Encrypt d m ρ hd hm good =
+    past _ _ 0x63 ∙ ap (λ (x : ℕ). x ⊕ 0x63) (sym (linear-additive _ _) ∙ ap linear (between d m ρ hd hm good))
+box-is-right Decrypt d m ρ hd hm good =
+    between (invLinear d ⊕ 0x05) (invLinear m) ρ (inv-affine-lt d hd) (inv-linear-lt m hm) good
+    ∙ ap inverse (past _ _ 0x05 ∙ ap (λ (x : ℕ). x ⊕ 0x05) (sym (inv-linear-additive d m)))

@@ -1,0 +1,2 @@
+pub mod Sbox
+pub mod Claims

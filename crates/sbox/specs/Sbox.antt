@@ -1,0 +1,52 @@
+-- Document 01, "From inversion to block": the masked S-box and its inverse.
+use Prim.Native.Nat.{ℕ}
+use mathlib.Core.List.{List, [], _∷_}
+use lib.ListN.{length}
+use Rattle.fips197.specs.Field.{_⊕_}
+use Rattle.fips197.specs.Cipher.{linear, invLinear}
+use Rattle.refusal.specs.Answer.{Answer, done, refused, first, above, isNot}
+use Rattle.tower.specs.Tower.{toTower, fromTower}
+use Rattle.tower.specs.Points.{maskedInverse, recordPoints}
+use Rattle.tower.specs.declared.Record.{Record}
+use Rattle.sbox.specs.declared.Direction.{Direction}
+use Rattle.sbox.specs.declared.Direction.the-variants.{Encrypt, Decrypt}
+
+-- Data byte and mask each go to the tower; decrypting, the inverse affine step comes first, its constant 05 on the data only.
+unfoldable pub enterData : Direction → ℕ → ℕ
+enterData Encrypt d = toTower d
+enterData Decrypt d = toTower (invLinear d ⊕ 0x05)
+
+unfoldable pub enterMask : Direction → ℕ → ℕ
+enterMask Encrypt m = toTower m
+enterMask Decrypt m = toTower (invLinear m)
+
+-- Each comes back; encrypting, the affine step follows, its constant 63 on the data only.
+unfoldable pub leaveData : Direction → ℕ → ℕ
+leaveData Encrypt a = linear (fromTower a) ⊕ 0x63
+leaveData Decrypt a = fromTower a
+
+unfoldable pub leaveMask : Direction → ℕ → ℕ
+leaveMask Encrypt s = linear (fromTower s)
+leaveMask Decrypt s = fromTower s
+
+-- the new data byte and the outgoing mask, which is S brought back
+unfoldable pub newByte : Direction → ℕ → ℕ → Record → ℕ
+newByte dir d m ρ = leaveData dir (maskedInverse (enterData dir d) (enterMask dir m) ρ)
+
+unfoldable pub newMask : Direction → Record → ℕ
+newMask dir ρ = leaveMask dir (ρ .s)
+
+-- one name that opens all of the above where a proof computes
+unfoldable pub ways : Unit {0}
+unfolding enterData enterMask leaveData leaveMask newByte newMask
+ways = tt
+
+-- what a call answers: the two bytes, or refusal 2
+abbrev pub substituted : Direction → ℕ → ℕ → Record → Answer (ℕ × ℕ)
+substituted dir d m ρ = first ((2, above 3 (ρ .r)) ∷ []) refused (done (newByte dir d m ρ, newMask dir ρ))
+
+-- the same with the inversion's points: refusal 3 before 2, and then the points buffer as it was
+abbrev pub substitutedWithPoints : Direction → ℕ → ℕ → Record → List ℕ → Answer (ℕ × ℕ) × List ℕ
+substitutedWithPoints dir d m ρ buffer =
+    first ((3, isNot 62 (length buffer)) ∷ (2, above 3 (ρ .r)) ∷ []) (λ r. (refused r, buffer))
+    (done (newByte dir d m ρ, newMask dir ρ), recordPoints (enterData dir d) (enterMask dir m) ρ)
