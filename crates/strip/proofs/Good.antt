@@ -1,0 +1,96 @@
+-- What a strip that passed the check is, for the proofs of calls that use its records. Assumes nothing.
+use Prim.Native.Nat.{ℕ, zero, suc, _+_, _-_, _*_, _≤_}
+use mathlib.Core.Path.{_≡_, refl, sym, ap, _∙_}
+use mathlib.Core.List.{List, _∷_}
+use mathlib.Core.Bool.{Bool, true, false, not}
+use native.Mathlib.Omega.{arith}
+use lib.ListN.{length, getD, take, drop}
+use lib.Dec.{eqb}
+use borrow.Author.Tests.{le-ltb, ltb-false, eqb-true, not-false}
+use Rattle.refusal.specs.Answer.{done, refused, first, above, either, isNot}
+use Rattle.strip.specs.declared.Form.{Form}
+use Rattle.strip.specs.declared.Form.the-variants.{Good}
+use Rattle.strip.specs.Strip.{version, keySize, recordBytes, both, sameForm, badFraming, spent, unknownVersion, wrongRecordBytes, badThird, badRecord, form, formOf, wholeRecord, recordPart}
+use Rattle.strip.proofs.Laws.{either-false, third-at}
+
+pub record Fit (s : List ℕ) (size : ℕ) : Type 0 where
+  pub long : 4 ≤ length s
+  pub key : keySize s ≡ size
+  -- three for each of 160, 192 or 224 S-boxes
+  pub bytes : recordBytes s ≡ 12 * size + 288
+  pub there : (i : ℕ) → 4 + 3 * i + 3 ≤ length s → recordPart s i ≡ take 3 (drop (4 + 3 * i) s)
+  pub small : (i : ℕ) → 4 + 3 * i + 3 ≤ length s → getD s (4 + 3 * i + 2) 0 ≤ 3
+
+-- where none is refused, no check of the list applies
+passed : (n : ℕ) (b : Bool) (checks : List (ℕ × Bool)) (x : Unit {0}) → first ((n, b) ∷ checks) refused (done x) ≡ done x
+    → (b ≡ false) × (first checks refused (done x) ≡ done x)
+unfolding first
+passed n true checks x e = let y : _≡_ {A = ℕ} 0 1 = cc in absurd (omega arith)
+passed n false checks x e = (refl, e)
+
+both-true : (a b : Bool) → both a b ≡ true → (a ≡ true) × (b ≡ true)
+both-true true b e = (refl, e)
+both-true false b e = let y : _≡_ {A = ℕ} 0 1 = cc in absurd (omega arith)
+
+either-right : (a b : Bool) → either a b ≡ false → b ≡ false
+either-right true b e = let y : _≡_ {A = ℕ} 0 1 = cc in absurd (omega arith)
+either-right false b e = e
+
+-- one of three, where not none
+one-of : (a b c : Bool) {P : Type 0} → not (either a (either b (either c false))) ≡ false → (a ≡ true → P) → (b ≡ true → P) → (c ≡ true → P) → P
+one-of true b c e f g h = f refl
+one-of false true c e f g h = g refl
+one-of false false true e f g h = h refl
+one-of false false false e f g h = let y : _≡_ {A = ℕ} 0 1 = cc in absurd (omega arith)
+
+bytes-of : (v k n key bytes : ℕ) → sameForm (v, (k, n)) (1, (key, bytes)) ≡ true → bytes ≡ 12 * key + 288 → n ≡ 12 * k + 288
+bytes-of v k n key bytes e h =
+    let rest = both-true (eqb v 1) _ e .1 in
+    let p : k ≡ key = eqb-true k key (both-true (eqb k key) (eqb n bytes) rest .0) in
+    let q : n ≡ bytes = eqb-true n bytes (both-true (eqb k key) (eqb n bytes) rest .1) in
+    omega arith
+
+module _ (s : List ℕ) where
+  unspoilt : badFraming s ≡ false → 4 ≤ length s
+  unfolding badFraming
+  unspoilt e = ltb-false (length s) 4 (either-false _ _ e)
+
+  right-bytes : wrongRecordBytes s ≡ false → recordBytes s ≡ 12 * keySize s + 288
+  unfolding wrongRecordBytes
+  right-bytes e =
+      one-of _ _ _ e
+      (λ p. bytes-of (version s) (keySize s) (recordBytes s) 16 480 p refl)
+      (λ p. bytes-of (version s) (keySize s) (recordBytes s) 24 576 p refl)
+      (λ p. bytes-of (version s) (keySize s) (recordBytes s) 32 672 p refl)
+
+  handed-out : (i : ℕ) → badFraming s ≡ false → spent s ≡ false → unknownVersion s ≡ false → 4 + 3 * i + 3 ≤ length s
+      → recordPart s i ≡ take 3 (drop (4 + 3 * i) s)
+  unfolding first wholeRecord
+  handed-out i f v u h = rw (f, u, v, le-ltb _ _ h) refl
+
+  -- no record is bad from any of them on
+  still : badRecord s ≡ false → (i : ℕ) → 4 + 3 * i ≤ length s → badThird (drop (4 + 3 * i) s) ≡ false
+  still e zero h = e
+  still e (suc i) h =
+      let n : 4 + 3 * suc i ≡ 4 + 3 * i + 3 = omega arith in
+      rw n (either-right (above 3 (getD s (4 + 3 * i + 2) 0)) _ (sym (third-at s i (omega arith)) ∙ still e i (omega arith)))
+
+  thirds : badRecord s ≡ false → (i : ℕ) → 4 + 3 * i + 3 ≤ length s → getD s (4 + 3 * i + 2) 0 ≤ 3
+  thirds e i h = ltb-false 3 (getD s (4 + 3 * i + 2) 0) (either-false (above 3 (getD s (4 + 3 * i + 2) 0)) _ (sym (third-at s i h) ∙ still e i (omega arith)))
+
+pub good : (s : List ℕ) (size : ℕ) (f : Form) → form f ≡ formOf s size → f ≡ Good → Fit s size
+good s size f e g =
+    let p7 = passed 7 (badFraming s) _ tt (sym e ∙ ap form g) in
+    let p11 = passed 11 (spent s) _ tt (p7 .1) in
+    let p8 = passed 8 (unknownVersion s) _ tt (p11 .1) in
+    let p9 = passed 9 (isNot size (keySize s)) _ tt (p8 .1) in
+    let p12 = passed 12 (wrongRecordBytes s) _ tt (p9 .1) in
+    let p10 = passed 10 (badRecord s) _ tt (p12 .1) in
+    let k : keySize s ≡ size = eqb-true (keySize s) size (not-false _ (p9 .0)) in
+    record {
+      long = unspoilt s (p7 .0);
+      key = k;
+      bytes = rw (← k) (right-bytes s (p12 .0));
+      there = λ i h. handed-out s i (p7 .0) (p11 .0) (p8 .0) h;
+      small = λ i h. thirds s (p10 .0) i h;
+    }

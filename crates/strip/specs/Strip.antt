@@ -1,0 +1,94 @@
+-- What a strip is, on its list of bytes; when each refusal applies to it; which part of it is a record; and what is left of it when it has served.
+use Prim.Native.Nat.{ℕ, _+_, _-_, _*_}
+use mathlib.Core.List.{List, [], _∷_, _++_}
+use mathlib.Core.Bool.{Bool, true, false, not}
+use lib.ListN.{length, getD, take, drop, set, replicate}
+use lib.Dec.{eqb, ltb}
+use Rattle.refusal.specs.Answer.{Answer, done, refused, first, above, either, isNot}
+use Rattle.strip.specs.declared.Form.{Form}
+use Rattle.strip.specs.declared.Form.the-variants.{Good, Refused}
+
+-- "two bytes of length, big-endian, counting all that follows; one version byte; one key-size byte; then one record for each S-box"
+abbrev pub lengthField : List ℕ → ℕ
+lengthField s = getD s 0 0 * 256 + getD s 1 0
+
+abbrev pub version : List ℕ → ℕ
+version s = getD s 2 0
+
+abbrev pub keySize : List ℕ → ℕ
+keySize s = getD s 3 0
+
+abbrev pub recordBytes : List ℕ → ℕ
+recordBytes s = length s - 4
+
+-- the forms of a strip: its version, its key size and its number of record bytes, three for each of 160, 192 or 224 S-boxes
+abbrev pub forms : List (ℕ × (ℕ × ℕ))
+forms = (1, (16, 3 * 160)) ∷ (1, (24, 3 * 192)) ∷ (1, (32, 3 * 224)) ∷ []
+
+abbrev pub both : Bool → Bool → Bool
+both true b = b
+both false b = false
+
+abbrev pub sameForm : (ℕ × (ℕ × ℕ)) → (ℕ × (ℕ × ℕ)) → Bool
+sameForm (v, (k, n)) (w, (l, m)) = both (eqb v w) (both (eqb k l) (eqb n m))
+
+-- whether something holds of one of a list
+abbrev pub some : {A : Type 0} → (A → Bool) → List A → Bool
+some p [] = false
+some p (x ∷ xs) = either (p x) (some p xs)
+
+-- 7: "strip below 4 bytes, or its length field is not its size less 2"
+unfoldable pub badFraming : List ℕ → Bool
+badFraming s = either (ltb (length s) 4) (isNot (length s - 2) (lengthField s))
+
+-- 11: "strip version 0: spent"
+unfoldable pub spent : List ℕ → Bool
+spent s = eqb (version s) 0
+
+-- 8: "strip version neither 0 nor 1", 1 being the version of all forms
+unfoldable pub unknownVersion : List ℕ → Bool
+unknownVersion s = not (either (eqb (version s) 0) (some (λ f. eqb (version s) (f .0)) forms))
+
+-- 12: "number of record bytes wrong for the key size"
+unfoldable pub wrongRecordBytes : List ℕ → Bool
+wrongRecordBytes s = not (some (sameForm (version s, (keySize s, recordBytes s))) forms)
+
+-- 10: "some record's third byte above 3"
+unfoldable pub badThird : List ℕ → Bool
+badThird [] = false
+badThird (a ∷ []) = false
+badThird (a ∷ b ∷ []) = false
+badThird (a ∷ b ∷ third ∷ records) = either (above 3 third) (badThird records)
+
+abbrev pub badRecord : List ℕ → Bool
+badRecord s = badThird (drop 4 s)
+
+-- the refusals of a strip for a block under round keys of this key size, in their order, each with whether it applies
+abbrev pub checkList : List ℕ → ℕ → List (ℕ × Bool)
+checkList s size =
+    (7, badFraming s) ∷ (11, spent s) ∷ (8, unknownVersion s) ∷ (9, isNot size (keySize s)) ∷ (12, wrongRecordBytes s) ∷ (10, badRecord s) ∷ []
+
+-- what the check of a strip answers
+abbrev pub form : Form → Answer (Unit {0})
+form Good = done tt
+form (Refused r) = refused r
+
+abbrev pub formOf : List ℕ → ℕ → Answer (Unit {0})
+formOf s size = first (checkList s size) refused (done tt)
+
+abbrev pub unless : Bool → List ℕ → List ℕ
+unless true part = []
+unless false part = part
+
+-- "Records count from 0, three bytes each from the strip's fifth byte"; nothing where the whole record is not there
+unfoldable pub wholeRecord : List ℕ → ℕ → List ℕ
+wholeRecord s index = unless (ltb (length s) (4 + 3 * index + 3)) (take 3 (drop (4 + 3 * index) s))
+
+-- "An empty part, with no number, is handed out exactly when 7, 8 or 11 applies to the strip or the whole three-byte record asked for is not there"
+abbrev pub recordPart : List ℕ → ℕ → List ℕ
+recordPart s index =
+    first ((7, badFraming s) ∷ (8, unknownVersion s) ∷ (11, spent s) ∷ []) (λ _. []) (wholeRecord s index)
+
+-- "A strip that has served has version 0 and all record bytes zero; length and key size stay"
+unfoldable pub wiped : List ℕ → List ℕ
+wiped s = take 4 (set s 2 0) ++ replicate (recordBytes s) 0
