@@ -10,7 +10,7 @@ use tower::Record;
 
 const UNTOUCHED: u8 = 0xa5;
 
-struct Tally {
+struct Counts {
     answered: u64,
     refused: u64,
     other: u64,
@@ -22,19 +22,19 @@ enum Outcome {
     Other,
 }
 
-fn count(t: Tally, o: Outcome) -> Tally {
+fn count(t: Counts, o: Outcome) -> Counts {
     match o {
-        Outcome::Answered => Tally {
+        Outcome::Answered => Counts {
             answered: std::num::wrapping_add_u64(t.answered, 1),
             refused: t.refused,
             other: t.other,
         },
-        Outcome::Refused => Tally {
+        Outcome::Refused => Counts {
             answered: t.answered,
             refused: std::num::wrapping_add_u64(t.refused, 1),
             other: t.other,
         },
-        Outcome::Other => Tally {
+        Outcome::Other => Counts {
             answered: t.answered,
             refused: t.refused,
             other: std::num::wrapping_add_u64(t.other, 1),
@@ -42,7 +42,7 @@ fn count(t: Tally, o: Outcome) -> Tally {
     }
 }
 
-fn report(name: &[u8], t: Tally) {
+fn report(name: &[u8], t: Counts) {
     io::write_all(STDOUT_FILENO, name);
     io::write_all(STDOUT_FILENO, b" ");
     io::print_decimal(STDOUT_FILENO, t.answered);
@@ -74,36 +74,6 @@ fn element_outcome(e: Element) -> Outcome {
             }
         }
     }
-}
-
-// One of the four checked calls, by its place in the list.
-fn call(which: u8, x: u8, y: u8) -> Element {
-    if which == 0 {
-        return tower::pair_product(x, y);
-    }
-    if which == 1 {
-        return tower::pair_inverse(x);
-    }
-    if which == 2 {
-        return tower::nibble_product(x, y);
-    }
-    tower::nibble_inverse(x)
-}
-
-fn elements(which: u8, calls: usize) -> Tally {
-    let mut t = Tally {
-        answered: 0,
-        refused: 0,
-        other: 0,
-    };
-    let mut i: usize = 0;
-    while i < calls {
-        let x = (i % 256) as u8;
-        let y = (i / 256 % 256) as u8;
-        t = count(t, element_outcome(call(which, x, y)));
-        i += 1;
-    }
-    t
 }
 
 fn unchanged(buffer: &[u8]) -> bool {
@@ -156,39 +126,47 @@ fn fresh(n: usize, r: u8, expected: u8) -> Outcome
     masked_outcome(m, expected, same)
 }
 
-fn lengths() -> Tally {
-    let mut t = Tally {
-        answered: 0,
-        refused: 0,
-        other: 0,
-    };
-    let mut n: usize = 0;
-    while n < 201 {
-        t = count(t, fresh(n, 1, 3));
-        n += 1;
+// One call of a kind: its operands are the two bytes of i, or i is the length or the third record byte.
+fn one_call(kind: u8, i: usize) -> Outcome {
+    let x = (i % 256) as u8;
+    let y = (i / 256 % 256) as u8;
+    if kind == 0 {
+        return element_outcome(tower::pair_product(x, y));
     }
-    t
+    if kind == 1 {
+        return element_outcome(tower::pair_inverse(x));
+    }
+    if kind == 2 {
+        return element_outcome(tower::nibble_product(x, y));
+    }
+    if kind == 3 {
+        return element_outcome(tower::nibble_inverse(x));
+    }
+    if kind == 4 {
+        return fresh(i % 201, 1, 3);
+    }
+    fresh(62, x, 2)
 }
 
-fn third_bytes() -> Tally {
-    let mut t = Tally {
+fn tally(kind: u8, calls: usize) -> Counts {
+    let mut t = Counts {
         answered: 0,
         refused: 0,
         other: 0,
     };
-    let mut r: usize = 0;
-    while r < 256 {
-        t = count(t, fresh(62, (r % 256) as u8, 2));
-        r += 1;
+    let mut i: usize = 0;
+    while i < calls {
+        t = count(t, one_call(kind, i));
+        i += 1;
     }
     t
 }
 
 fn main() {
-    report(b"pair_product", elements(0, 65536));
-    report(b"pair_inverse", elements(1, 256));
-    report(b"nibble_product", elements(2, 65536));
-    report(b"nibble_inverse", elements(3, 256));
-    report(b"points_length", lengths());
-    report(b"third_record_byte", third_bytes());
+    report(b"pair_product", tally(0, 65536));
+    report(b"pair_inverse", tally(1, 256));
+    report(b"nibble_product", tally(2, 65536));
+    report(b"nibble_inverse", tally(3, 256));
+    report(b"points_length", tally(4, 201));
+    report(b"third_record_byte", tally(5, 256));
 }

@@ -2,7 +2,6 @@
 ghost use mathlib.Core.Path.{_≡_};
 ghost use Prim.Native.Nat.{_+_, _<_};
 ghost use lib.ListN.{replicate, set, length};
-ghost use Rattle.tower.specs.Tower.{hi, lo};
 ghost use Rattle.tower.specs.Points.{maskedInverse, recordPoints};
 ghost use Rattle.rows.specs.Rows.{made, rowRun, ran, rows, start, put, rowRecorded, recorded};
 use tower::Record;
@@ -180,22 +179,13 @@ fn run(cells: &mut [u8; 256])
     }
 }
 
-// The halves of a byte, in two cells side by side.
-fn place_nibbles(cells: &mut [u8; 256], at: usize, x: u8)
+// Two halves of one part, in two cells side by side.
+fn place(cells: &mut [u8; 256], at: usize, high: u8, low: u8)
     requires { ⌜ at < 255 ⌝ }
-    ensures { λ _. ⌜ now (cells .exit) ≡ set (set (now (cells .entry)) at (hi 4 x)) (at + 1) (lo 4 x) ⌝ }
+    ensures { λ _. ⌜ now (cells .exit) ≡ set (set (now (cells .entry)) at high) (at + 1) low ⌝ }
 {
-    cells[at] = halves::high_nibble(x);
-    cells[at + 1] = halves::low_nibble(x);
-}
-
-// The halves of a nibble, in two cells side by side.
-fn place_pairs(cells: &mut [u8; 256], at: usize, x: u8)
-    requires { ⌜ at < 255 ⌝ }
-    ensures { λ _. ⌜ now (cells .exit) ≡ set (set (now (cells .entry)) at (hi 2 x)) (at + 1) (lo 2 x) ⌝ }
-{
-    cells[at] = halves::high_pair(x);
-    cells[at + 1] = halves::low_pair(x);
+    cells[at] = high;
+    cells[at + 1] = low;
 }
 
 // The cells before the first row.
@@ -205,14 +195,29 @@ fn fill(cells: &mut [u8; 256], masked: u8, mask: u8, record: Record)
 {
     let q = halves::high_nibble(record.qt);
     let t = halves::low_nibble(record.qt);
-    place_nibbles(cells, 65, masked);
-    place_nibbles(cells, 97, mask);
+    place(
+        cells,
+        65,
+        halves::high_nibble(masked),
+        halves::low_nibble(masked),
+    );
+    place(
+        cells,
+        97,
+        halves::high_nibble(mask),
+        halves::low_nibble(mask),
+    );
     cells[130] = record.r;
     cells[131] = q;
     cells[132] = t;
-    place_pairs(cells, 133, q);
-    place_pairs(cells, 135, t);
-    place_nibbles(cells, 137, record.s);
+    place(cells, 133, halves::high_pair(q), halves::low_pair(q));
+    place(cells, 135, halves::high_pair(t), halves::low_pair(t));
+    place(
+        cells,
+        137,
+        halves::high_nibble(record.s),
+        halves::low_nibble(record.s),
+    );
 }
 
 // The one computation of the 62 points, left in cells 1 to 62. The answer is points 54 and 62 joined.

@@ -58,12 +58,13 @@ pub ran-all : (n k : ℕ) (before cells : List ℕ) → cells ≡ ran rows n bef
 ran-all n k before cells same e = same ∙ ap {B = List ℕ} (λ (i : ℕ). ran rows i before) e
 
 -- the cells before the first row, from what the calls that fill them leave
-pub started : (a m : ℕ) (ρ : Record) {q t : ℕ} {c0 c1 c2 c3 c4 c5 : List ℕ} → c0 ≡ replicate 256 0 → q ≡ hi 4 (ρ .qt) → t ≡ lo 4 (ρ .qt)
-    → c1 ≡ set (set c0 65 (hi 4 a)) 66 (lo 4 a) → c2 ≡ set (set c1 97 (hi 4 m)) 98 (lo 4 m)
-    → c3 ≡ set (set (set (set (set c2 130 (ρ .r)) 131 q) 132 t) 133 (hi 2 q)) 134 (lo 2 q) → c4 ≡ set (set c3 135 (hi 2 t)) 136 (lo 2 t)
-    → c5 ≡ set (set c4 137 (hi 4 (ρ .s))) 138 (lo 4 (ρ .s)) → c5 ≡ start a m ρ
+pub started : (a m : ℕ) (ρ : Record) {q t a1 a0 m1 m0 q1 q0 t1 t0 s1 s0 : ℕ} {c0 c1 c2 c3 c4 c5 : List ℕ} → c0 ≡ replicate 256 0 → q ≡ hi 4 (ρ .qt) → t ≡ lo 4 (ρ .qt)
+    → a1 ≡ hi 4 a → a0 ≡ lo 4 a → c1 ≡ set (set c0 65 a1) 66 a0 → m1 ≡ hi 4 m → m0 ≡ lo 4 m → c2 ≡ set (set c1 97 m1) 98 m0
+    → q1 ≡ hi 2 q → q0 ≡ lo 2 q → c3 ≡ set (set (set (set (set c2 130 (ρ .r)) 131 q) 132 t) 133 q1) 134 q0
+    → t1 ≡ hi 2 t → t0 ≡ lo 2 t → c4 ≡ set (set c3 135 t1) 136 t0 → s1 ≡ hi 4 (ρ .s) → s0 ≡ lo 4 (ρ .s) → c5 ≡ set (set c4 137 s1) 138 s0 → c5 ≡ start a m ρ
 unfolding start
-started a m ρ e0 eq et e1 e2 e3 e4 e5 = simp (e5, e4, e3, e2, e1, e0, eq, et)
+started a m ρ e0 eq et ea1 ea0 e1 em1 em0 e2 eq1 eq0 e3 et1 et0 e4 es1 es0 e5 =
+    simp (e5, e4, e3, e2, e1, e0, ea1, ea0, em1, em0, eq1, eq0, et1, et0, es1, es0, eq, et)
 
 -- ---- the points in the cells
 

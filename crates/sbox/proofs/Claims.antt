@@ -4,7 +4,7 @@ use Prim.Native.Nat.{ℕ, _<_}
 use Rattle.fips197.specs.Field.{field, _⊕_, inverse}
 use Rattle.fips197.specs.Cipher.{linear, affine, sbox, invLinear, invAffine, invSbox}
 use Rattle.fips197.proofs.Below.{eq1}
-use Rattle.fips197.proofs.Xor.{sums, lt}
+use Rattle.fips197.proofs.Xor.{sums, lt, zero-r}
 use Rattle.fips197.proofs.Affine.{linear-additive, inv-linear-additive, inv-affine-lt, inv-linear-lt}
 use Rattle.tower.specs.Tower.{tower, toTower, fromTower, byteInverse}
 use Rattle.tower.specs.Points.{maskedInverse}
@@ -13,7 +13,7 @@ use Rattle.tower.specs.declared.Record.{Record}
 use Rattle.tower.proofs.Basis.{to-additive, from-additive, to-lt}
 use Rattle.tower.proofs.Claims.{inversion-is-right}
 use Rattle.sbox.specs.declared.Direction.the-variants.{Encrypt, Decrypt}
-use Rattle.sbox.specs.Sbox.{enterData, enterMask, leaveData, leaveMask, newByte, newMask}
+use Rattle.sbox.specs.Sbox.{enter, leave, enterData, enterMask, newByte, newMask}
 use Rattle.sbox.specs.Claims as claims
 
 pub inverse-is-field : claims.InverseIsField
@@ -31,9 +31,11 @@ past : (x y k : ℕ) → x ⊕ k ⊕ y ≡ x ⊕ y ⊕ k
 past x y k = simp sums
 
 pub box-is-right : claims.BoxIsRight
-unfolding newByte newMask enterData enterMask leaveData leaveMask sbox affine invSbox invAffine
+unfolding newByte newMask enterData enterMask enter leave sbox affine invSbox invAffine
 box-is-right Encrypt d m ρ hd hm good =
-    past _ _ 0x63 ∙ ap (λ (x : ℕ). x ⊕ 0x63) (sym (linear-additive _ _) ∙ ap linear (between d m ρ hd hm good))
+    ap (λ (x : ℕ). linear (fromTower (maskedInverse (toTower d) (toTower m) ρ)) ⊕ 0x63 ⊕ x) (zero-r _)
+    ∙ past _ _ 0x63 ∙ ap (λ (x : ℕ). x ⊕ 0x63) (sym (linear-additive _ _) ∙ ap linear (between d m ρ hd hm good))
 box-is-right Decrypt d m ρ hd hm good =
-    between (invLinear d ⊕ 0x05) (invLinear m) ρ (inv-affine-lt d hd) (inv-linear-lt m hm) good
+    ap (λ (x : ℕ). fromTower (maskedInverse (toTower (invLinear d ⊕ 0x05)) (toTower x) ρ) ⊕ fromTower (ρ .s)) (zero-r _)
+    ∙ between (invLinear d ⊕ 0x05) (invLinear m) ρ (inv-affine-lt d hd) (inv-linear-lt m hm) good
     ∙ ap inverse (past _ _ 0x05 ∙ ap (λ (x : ℕ). x ⊕ 0x05) (sym (inv-linear-additive d m)))

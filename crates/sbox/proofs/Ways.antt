@@ -16,7 +16,7 @@ use Rattle.inversion.specs.declared.Masked.{Masked}
 use Rattle.inversion.specs.declared.Masked.the-variants.{Byte, Refused}
 use Rattle.inversion.specs.Answers.{byteAndMask, inverted, invertedWithPoints}
 use Rattle.sbox.specs.declared.Direction.{Direction}
-use Rattle.sbox.specs.Sbox.{enterData, enterMask, leaveData, leaveMask, newByte, newMask, substituted, substitutedWithPoints}
+use Rattle.sbox.specs.Sbox.{enter, leave, enterData, enterMask, newByte, newMask, substituted, substitutedWithPoints}
 
 -- a byte turned left by k places, p being 2 ^ k and q 2 ^ (8 - k)
 abbrev turned : ℕ → ℕ → ℕ → ℕ
@@ -45,14 +45,24 @@ module _ (dir : Direction) (d m : ℕ) (ρ : Record) (a k : ℕ) (x : Masked) wh
   passed-on-with buffer after r e f =
       refusal-passed {X = Answer (ℕ × ℕ) × List ℕ} (λ r. (refused r, buffer)) (λ p. p .0) (λ r. refl) ((3, isNot 62 (length buffer)) ∷ (2, above 3 (ρ .r)) ∷ []) _ _ (byteAndMask x, after) r _ (ap byteAndMask f) refl e
 
-  module _ (v s v′ s′ : ℕ) (ea : a ≡ enterData dir d) (ek : k ≡ enterMask dir m) (f : x ≡ Byte v s) (ev : v′ ≡ leaveData dir v) (es : s′ ≡ leaveMask dir s) where
+  module _ (v s v′ s′ : ℕ) (ea′ : a ≡ enter dir 0x05 d) (ek′ : k ≡ enter dir 0x00 m) (f : x ≡ Byte v s) (ev : v′ ≡ leave dir 0x63 v) (es : s′ ≡ leave dir 0x00 s) where
+    ea : a ≡ enterData dir d
+    unfolding enterData
+    ea = ea′
+
+    ek : k ≡ enterMask dir m
+    unfolding enterMask
+    ek = ek′
+
     brought : _≡_ {A = Answer (ℕ × ℕ)} (done (v, s)) (done (maskedInverse a k ρ, ρ .s)) → _≡_ {A = Answer (ℕ × ℕ)} (done (v′, s′)) (done (newByte dir d m ρ, newMask dir ρ))
     unfolding newByte newMask
     brought e =
         let p : v ≡ maskedInverse a k ρ = ap (λ (y : Answer (ℕ × ℕ)). given y .0) e in
         let q : s ≡ ρ .s = ap (λ (y : Answer (ℕ × ℕ)). given y .1) e in
-        let v-is : v′ ≡ leaveData dir (maskedInverse (enterData dir d) (enterMask dir m) ρ) = cc in
-        let s-is : s′ ≡ leaveMask dir (ρ .s) = cc in
+        let a-is = ea in
+        let k-is = ek in
+        let v-is : v′ ≡ leave dir 0x63 (maskedInverse (enterData dir d) (enterMask dir m) ρ) = cc in
+        let s-is : s′ ≡ leave dir 0x00 (ρ .s) = cc in
         ap₂ {C = Answer (ℕ × ℕ)} (λ (x y : ℕ). done (x, y)) v-is s-is
 
     pub brought-back : byteAndMask x ≡ inverted a k ρ → _≡_ {A = Answer (ℕ × ℕ)} (done (v′, s′)) (substituted dir d m ρ)

@@ -11,34 +11,32 @@ use Rattle.tower.specs.declared.Record.{Record}
 use Rattle.sbox.specs.declared.Direction.{Direction}
 use Rattle.sbox.specs.declared.Direction.the-variants.{Encrypt, Decrypt}
 
--- Data byte and mask each go to the tower; decrypting, the inverse affine step comes first, its constant 05 on the data only.
+-- Data byte and mask each go to the tower; decrypting, the inverse affine step comes first, with a constant: 05 on the data, none on the mask.
+unfoldable pub enter : Direction → ℕ → ℕ → ℕ
+enter Encrypt constant x = toTower x
+enter Decrypt constant x = toTower (invLinear x ⊕ constant)
+
+-- Each comes back; encrypting, the affine step follows, with a constant: 63 on the data, none on the mask.
+unfoldable pub leave : Direction → ℕ → ℕ → ℕ
+leave Encrypt constant x = linear (fromTower x) ⊕ constant
+leave Decrypt constant x = fromTower x
+
 unfoldable pub enterData : Direction → ℕ → ℕ
-enterData Encrypt d = toTower d
-enterData Decrypt d = toTower (invLinear d ⊕ 0x05)
+enterData dir d = enter dir 0x05 d
 
 unfoldable pub enterMask : Direction → ℕ → ℕ
-enterMask Encrypt m = toTower m
-enterMask Decrypt m = toTower (invLinear m)
-
--- Each comes back; encrypting, the affine step follows, its constant 63 on the data only.
-unfoldable pub leaveData : Direction → ℕ → ℕ
-leaveData Encrypt a = linear (fromTower a) ⊕ 0x63
-leaveData Decrypt a = fromTower a
-
-unfoldable pub leaveMask : Direction → ℕ → ℕ
-leaveMask Encrypt s = linear (fromTower s)
-leaveMask Decrypt s = fromTower s
+enterMask dir m = enter dir 0x00 m
 
 -- the new data byte and the outgoing mask, which is S brought back
 unfoldable pub newByte : Direction → ℕ → ℕ → Record → ℕ
-newByte dir d m ρ = leaveData dir (maskedInverse (enterData dir d) (enterMask dir m) ρ)
+newByte dir d m ρ = leave dir 0x63 (maskedInverse (enterData dir d) (enterMask dir m) ρ)
 
 unfoldable pub newMask : Direction → Record → ℕ
-newMask dir ρ = leaveMask dir (ρ .s)
+newMask dir ρ = leave dir 0x00 (ρ .s)
 
 -- one name that opens all of the above where a proof computes
 unfoldable pub ways : Unit {0}
-unfolding enterData enterMask leaveData leaveMask newByte newMask
+unfolding enter leave enterData enterMask newByte newMask
 ways = tt
 
 -- what a call answers: the two bytes, or refusal 2

@@ -2,7 +2,7 @@
 ghost use mathlib.Core.Path.{_≡_};
 ghost use Rattle.fips197.specs.Cipher.{linear, invLinear};
 ghost use Rattle.inversion.specs.Answers.{byteAndMask};
-ghost use Rattle.sbox.specs.Sbox.{enterData, enterMask, leaveData, leaveMask, substituted, substitutedWithPoints};
+ghost use Rattle.sbox.specs.Sbox.{enter, leave, substituted, substitutedWithPoints};
 use inversion::Masked;
 use tower::Record;
 
@@ -29,40 +29,22 @@ fn inverse_linear(x: u8) -> u8
     ((x << 1) | (x >> 7)) ^ ((x << 3) | (x >> 5)) ^ ((x << 6) | (x >> 2))
 }
 
-// The data byte on its way to the inversion. Only here the constant 05 is added.
-fn enter_data(direction: Direction, x: u8) -> u8
-    ensures { λ r. ⌜ r ≡ enterData direction x ⌝ }
+// One part on its way to the inversion, with the constant that is its own: 05 for the data, none for the mask.
+fn enter(direction: Direction, x: u8, constant: u8) -> u8
+    ensures { λ r. ⌜ r ≡ enter direction constant x ⌝ }
 {
     match direction {
         Direction::Encrypt => tower::to_tower(x),
-        Direction::Decrypt => tower::to_tower(inverse_linear(x) ^ 0x05),
+        Direction::Decrypt => tower::to_tower(inverse_linear(x) ^ constant),
     }
 }
 
-fn enter_mask(direction: Direction, x: u8) -> u8
-    ensures { λ r. ⌜ r ≡ enterMask direction x ⌝ }
+// One part on its way back, with the constant that is its own: 63 for the data, none for the mask.
+fn leave(direction: Direction, x: u8, constant: u8) -> u8
+    ensures { λ r. ⌜ r ≡ leave direction constant x ⌝ }
 {
     match direction {
-        Direction::Encrypt => tower::to_tower(x),
-        Direction::Decrypt => tower::to_tower(inverse_linear(x)),
-    }
-}
-
-// The data byte on its way back. Only here the constant 63 is added.
-fn leave_data(direction: Direction, x: u8) -> u8
-    ensures { λ r. ⌜ r ≡ leaveData direction x ⌝ }
-{
-    match direction {
-        Direction::Encrypt => linear(tower::from_tower(x)) ^ 0x63,
-        Direction::Decrypt => tower::from_tower(x),
-    }
-}
-
-fn leave_mask(direction: Direction, x: u8) -> u8
-    ensures { λ r. ⌜ r ≡ leaveMask direction x ⌝ }
-{
-    match direction {
-        Direction::Encrypt => linear(tower::from_tower(x)),
+        Direction::Encrypt => linear(tower::from_tower(x)) ^ constant,
         Direction::Decrypt => tower::from_tower(x),
     }
 }
@@ -71,14 +53,14 @@ fn leave_mask(direction: Direction, x: u8) -> u8
 pub fn substitute(direction: Direction, data: u8, mask: u8, record: Record) -> Masked
     ensures { λ v. ⌜ byteAndMask v ≡ substituted direction «data» mask «record» ⌝ }
 {
-    let a = enter_data(direction, data);
-    let m = enter_mask(direction, mask);
+    let a = enter(direction, data, 0x05);
+    let m = enter(direction, mask, 0x00);
     let inverted = inversion::invert(a, m, record);
     let Masked::Byte(value, s) = inverted else {
         return inverted;
     };
-    let result = leave_data(direction, value);
-    let outgoing = leave_mask(direction, s);
+    let result = leave(direction, value, 0x63);
+    let outgoing = leave(direction, s, 0x00);
     Masked::Byte(result, outgoing)
 }
 
@@ -92,13 +74,13 @@ pub fn substitute_points(
 ) -> Masked
     ensures { λ v. ⌜ (byteAndMask v, now (points .exit)) ≡ substitutedWithPoints direction «data» mask «record» (now (points .entry)) ⌝ }
 {
-    let a = enter_data(direction, data);
-    let m = enter_mask(direction, mask);
+    let a = enter(direction, data, 0x05);
+    let m = enter(direction, mask, 0x00);
     let inverted = inversion::invert_points(a, m, record, points);
     let Masked::Byte(value, s) = inverted else {
         return inverted;
     };
-    let result = leave_data(direction, value);
-    let outgoing = leave_mask(direction, s);
+    let result = leave(direction, value, 0x63);
+    let outgoing = leave(direction, s, 0x00);
     Masked::Byte(result, outgoing)
 }

@@ -4,11 +4,11 @@ use Rattle.sbox.proofs.Ways.{passed-on, brought-back}
 use Rattle.sbox.proofs.substitute.Statement.{statement}
 use Rattle.sbox.proofs.substitute.Tie as tie
 
-enter-data-requires : tie.Need-enter-data-requires
-enter-data-requires c κs = search needs
+enter-requires : tie.Need-enter-requires
+enter-requires c κs = search needs
 
-enter-mask-requires : tie.Need-enter-mask-requires
-enter-mask-requires c κs = search needs
+enter-requires-2 : tie.Need-enter-requires-2
+enter-requires-2 c κs = search needs
 
 invert-requires : tie.Need-invert-requires
 invert-requires c κs = search needs
@@ -22,11 +22,11 @@ enum-told c = search needs
 returns : tie.Need-returns
 returns c = search passed-on
 
-leave-data-requires : tie.Need-leave-data-requires
-leave-data-requires c κs = search needs
+leave-requires : tie.Need-leave-requires
+leave-requires c κs = search needs
 
-leave-mask-requires : tie.Need-leave-mask-requires
-leave-mask-requires c κs = search needs
+leave-requires-2 : tie.Need-leave-requires-2
+leave-requires-2 c κs = search needs
 
 returns-2 : tie.Need-returns-2
 returns-2 c = search brought-back
@@ -35,12 +35,12 @@ pub substitute-spec : {M : Type 1} → statement M
 substitute-spec =
     tie.close
     (tie.spec
-    enter-data-requires
-    enter-mask-requires
+    enter-requires
+    enter-requires-2
     invert-requires
     enum-known-inverted
     enum-told
     returns
-    leave-data-requires
-    leave-mask-requires
+    leave-requires
+    leave-requires-2
     returns-2)

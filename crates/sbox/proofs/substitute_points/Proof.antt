@@ -4,11 +4,11 @@ use Rattle.sbox.proofs.Ways.{passed-on-with, brought-back-with}
 use Rattle.sbox.proofs.substitute_points.Statement.{statement}
 use Rattle.sbox.proofs.substitute_points.Tie as tie
 
-enter-data-requires : tie.Need-enter-data-requires
-enter-data-requires c κs = search needs
+enter-requires : tie.Need-enter-requires
+enter-requires c κs = search needs
 
-enter-mask-requires : tie.Need-enter-mask-requires
-enter-mask-requires c κs = search needs
+enter-requires-2 : tie.Need-enter-requires-2
+enter-requires-2 c κs = search needs
 
 invert-points-requires : tie.Need-invert-points-requires
 invert-points-requires c κs = search needs
@@ -25,11 +25,11 @@ same-length c = search needs
 returns : tie.Need-returns
 returns c = search passed-on-with
 
-leave-data-requires : tie.Need-leave-data-requires
-leave-data-requires c κs = search needs
+leave-requires : tie.Need-leave-requires
+leave-requires c κs = search needs
 
-leave-mask-requires : tie.Need-leave-mask-requires
-leave-mask-requires c κs = search needs
+leave-requires-2 : tie.Need-leave-requires-2
+leave-requires-2 c κs = search needs
 
 same-length-2 : tie.Need-same-length-2
 same-length-2 c = search needs
@@ -41,14 +41,14 @@ pub substitute-points-spec : {M : Type 1} → statement M
 substitute-points-spec =
     tie.close
     (tie.spec
-    enter-data-requires
-    enter-mask-requires
+    enter-requires
+    enter-requires-2
     invert-points-requires
     enum-known-inverted
     enum-told
     same-length
     returns
-    leave-data-requires
-    leave-mask-requires
+    leave-requires
+    leave-requires-2
     same-length-2
     returns-2)

@@ -1,9 +1,9 @@
--- `sbox::enter_data` meets its contract: in each direction, from the change of basis. Assumes nothing.
+-- `sbox::enter` meets its contract: in each direction, from the change of basis. Assumes nothing.
 use borrow.Author.Needs.{needs}
 use Rattle.fips197.specs.Field.{_⊕_}
-use Rattle.sbox.specs.Sbox.{enterData}
-use Rattle.sbox.proofs.enter_data.Statement.{statement}
-use Rattle.sbox.proofs.enter_data.Tie as tie
+use Rattle.sbox.specs.Sbox.{enter}
+use Rattle.sbox.proofs.enter.Statement.{statement}
+use Rattle.sbox.proofs.enter.Tie as tie
 
 enum-told : tie.Need-enum-told
 enum-told c = search needs
@@ -21,15 +21,15 @@ to-tower-requires-2 : tie.Need-to-tower-requires-2
 to-tower-requires-2 c κs = search needs
 
 returns : tie.Need-returns
-unfolding enterData _⊕_
+unfolding enter _⊕_
 returns c = cc
 
 returns-2 : tie.Need-returns-2
-unfolding enterData _⊕_
+unfolding enter _⊕_
 returns-2 c = cc
 
-pub enter-data-spec : {M : Type 1} → statement M
-enter-data-spec =
+pub enter-spec : {M : Type 1} → statement M
+enter-spec =
     tie.close
     (tie.spec
     enum-told

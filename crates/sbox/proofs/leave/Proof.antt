@@ -1,9 +1,9 @@
--- `sbox::leave_mask` meets its contract: in each direction, from the change of basis. Assumes nothing.
+-- `sbox::leave` meets its contract: in each direction, from the change of basis. Assumes nothing.
 use borrow.Author.Needs.{needs}
 use Rattle.fips197.specs.Field.{_⊕_}
-use Rattle.sbox.specs.Sbox.{leaveMask}
-use Rattle.sbox.proofs.leave_mask.Statement.{statement}
-use Rattle.sbox.proofs.leave_mask.Tie as tie
+use Rattle.sbox.specs.Sbox.{leave}
+use Rattle.sbox.proofs.leave.Statement.{statement}
+use Rattle.sbox.proofs.leave.Tie as tie
 
 enum-told : tie.Need-enum-told
 enum-told c = search needs
@@ -21,15 +21,15 @@ from-tower-requires-2 : tie.Need-from-tower-requires-2
 from-tower-requires-2 c κs = search needs
 
 returns : tie.Need-returns
-unfolding leaveMask _⊕_
+unfolding leave _⊕_
 returns c = cc
 
 returns-2 : tie.Need-returns-2
-unfolding leaveMask _⊕_
+unfolding leave _⊕_
 returns-2 c = cc
 
-pub leave-mask-spec : {M : Type 1} → statement M
-leave-mask-spec =
+pub leave-spec : {M : Type 1} → statement M
+leave-spec =
     tie.close
     (tie.spec
     enum-told

@@ -1,29 +1,26 @@
--- `edges::third_bytes` meets its contract: the loop ends after 256 turns. Assumes nothing.
+-- `edges::tally` meets its contract: the loop ends, since the count of calls is fixed. Assumes nothing.
 use Prim.Native.Nat.{_≤_, _-_}
 use borrow.Author.Needs.{needs}
-use Rattle.edges.proofs.third_bytes.Statement.{statement}
-use Rattle.edges.proofs.third_bytes.Tie as tie
+use Rattle.edges.proofs.tally.Statement.{statement}
+use Rattle.edges.proofs.tally.Tie as tie
 
 abbrev Inv-loop : tie.InvT-loop
-Inv-loop t₀ r₀ t r = r ≤ 256
+Inv-loop kind calls t₀ i₀ t i = i ≤ calls
 
 abbrev μ-loop : tie.MeasureT-loop
-μ-loop t₀ r₀ t r = 256 - r
+μ-loop kind calls t₀ i₀ t i = calls - i
 
 loop-holds : tie.Need-loop-holds Inv-loop μ-loop
 loop-holds c = search needs
 
-cast-fresh : tie.Need-cast-fresh Inv-loop μ-loop
-cast-fresh c = search needs
-
-fresh-requires : tie.Need-fresh-requires Inv-loop μ-loop
-fresh-requires c κs = search needs
+one-call-requires : tie.Need-one-call-requires Inv-loop μ-loop
+one-call-requires c κs = search needs
 
 count-requires : tie.Need-count-requires Inv-loop μ-loop
 count-requires c κs = search needs
 
-add-r : tie.Need-add-r Inv-loop μ-loop
-add-r c = search needs
+add-i : tie.Need-add-i Inv-loop μ-loop
+add-i c = search needs
 
 loop-less : tie.Need-loop-less Inv-loop μ-loop
 loop-less c = search needs
@@ -34,17 +31,16 @@ loop-again c = search needs
 returns : tie.Need-returns Inv-loop μ-loop
 returns c = search needs
 
-pub third-bytes-spec : {M : Type 1} → statement M
-third-bytes-spec =
+pub tally-spec : {M : Type 1} → statement M
+tally-spec =
     tie.close
     (tie.spec
     Inv-loop
     μ-loop
     loop-holds
-    cast-fresh
-    fresh-requires
+    one-call-requires
     count-requires
-    add-r
+    add-i
     loop-less
     loop-again
     returns)
