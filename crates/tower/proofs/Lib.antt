@@ -8,3 +8,4 @@ pub mod Stage
 pub mod Counts
 pub mod Claims
 pub mod Leaf
+pub mod Unique
