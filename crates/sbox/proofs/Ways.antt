@@ -45,7 +45,7 @@ module _ (dir : Direction) (d m : ℕ) (ρ : Record) (a k : ℕ) (x : Masked) wh
   passed-on-with buffer after r e f =
       refusal-passed {X = Answer (ℕ × ℕ) × List ℕ} (λ r. (refused r, buffer)) (λ p. p .0) (λ r. refl) ((3, isNot 62 (length buffer)) ∷ (2, above 3 (ρ .r)) ∷ []) _ _ (byteAndMask x, after) r _ (ap byteAndMask f) refl e
 
-  module _ (v s v′ s′ : ℕ) (ea′ : a ≡ enter dir 0x05 d) (ek′ : k ≡ enter dir 0x00 m) (f : x ≡ Byte v s) (ev : v′ ≡ leave dir 0x63 v) (es : s′ ≡ leave dir 0x00 s) where
+  module _ (v s v′ s′ : ℕ) (ea′ : a ≡ enter dir 0x05 d) (ek′ : k ≡ enter dir 0x00 m) (f : x ≡ Byte v s) (ev : v′ ≡ leave dir 0x63 v) (es : s′ ≡ leave dir 0x00 (ρ .s)) where
     ea : a ≡ enterData dir d
     unfolding enterData
     ea = ea′
@@ -58,12 +58,10 @@ module _ (dir : Direction) (d m : ℕ) (ρ : Record) (a k : ℕ) (x : Masked) wh
     unfolding newByte newMask
     brought e =
         let p : v ≡ maskedInverse a k ρ = ap (λ (y : Answer (ℕ × ℕ)). given y .0) e in
-        let q : s ≡ ρ .s = ap (λ (y : Answer (ℕ × ℕ)). given y .1) e in
         let a-is = ea in
         let k-is = ek in
         let v-is : v′ ≡ leave dir 0x63 (maskedInverse (enterData dir d) (enterMask dir m) ρ) = cc in
-        let s-is : s′ ≡ leave dir 0x00 (ρ .s) = cc in
-        ap₂ {C = Answer (ℕ × ℕ)} (λ (x y : ℕ). done (x, y)) v-is s-is
+        ap₂ {C = Answer (ℕ × ℕ)} (λ (x y : ℕ). done (x, y)) v-is es
 
     pub brought-back : byteAndMask x ≡ inverted a k ρ → _≡_ {A = Answer (ℕ × ℕ)} (done (v′, s′)) (substituted dir d m ρ)
     brought-back e =

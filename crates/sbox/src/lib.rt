@@ -50,17 +50,18 @@ fn leave(direction: Direction, x: u8, constant: u8) -> u8
 }
 
 // The S-box on a masked byte: data and mask go in and come back each on its own way, and meet in the inversion alone.
+// The mask comes back before the data does: done together, the compiler puts both into one register.
 pub fn substitute(direction: Direction, data: u8, mask: u8, record: Record) -> Masked
     ensures { λ v. ⌜ byteAndMask v ≡ substituted direction «data» mask «record» ⌝ }
 {
     let a = enter(direction, data, 0x05);
     let m = enter(direction, mask, 0x00);
+    let outgoing = leave(direction, record.s, 0x00);
     let inverted = inversion::invert(a, m, record);
-    let Masked::Byte(value, s) = inverted else {
+    let Masked::Byte(value, _) = inverted else {
         return inverted;
     };
     let result = leave(direction, value, 0x63);
-    let outgoing = leave(direction, s, 0x00);
     Masked::Byte(result, outgoing)
 }
 
@@ -76,11 +77,11 @@ pub fn substitute_points(
 {
     let a = enter(direction, data, 0x05);
     let m = enter(direction, mask, 0x00);
+    let outgoing = leave(direction, record.s, 0x00);
     let inverted = inversion::invert_points(a, m, record, points);
-    let Masked::Byte(value, s) = inverted else {
+    let Masked::Byte(value, _) = inverted else {
         return inverted;
     };
     let result = leave(direction, value, 0x63);
-    let outgoing = leave(direction, s, 0x00);
     Masked::Byte(result, outgoing)
 }

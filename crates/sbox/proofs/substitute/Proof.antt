@@ -10,6 +10,9 @@ enter-requires c κs = search needs
 enter-requires-2 : tie.Need-enter-requires-2
 enter-requires-2 c κs = search needs
 
+leave-requires : tie.Need-leave-requires
+leave-requires c κs = search needs
+
 invert-requires : tie.Need-invert-requires
 invert-requires c κs = search needs
 
@@ -21,9 +24,6 @@ enum-told c = search needs
 
 returns : tie.Need-returns
 returns c = search passed-on
-
-leave-requires : tie.Need-leave-requires
-leave-requires c κs = search needs
 
 leave-requires-2 : tie.Need-leave-requires-2
 leave-requires-2 c κs = search needs
@@ -37,10 +37,10 @@ substitute-spec =
     (tie.spec
     enter-requires
     enter-requires-2
+    leave-requires
     invert-requires
     enum-known-inverted
     enum-told
     returns
-    leave-requires
     leave-requires-2
     returns-2)

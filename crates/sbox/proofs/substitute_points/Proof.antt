@@ -10,6 +10,9 @@ enter-requires c κs = search needs
 enter-requires-2 : tie.Need-enter-requires-2
 enter-requires-2 c κs = search needs
 
+leave-requires : tie.Need-leave-requires
+leave-requires c κs = search needs
+
 invert-points-requires : tie.Need-invert-points-requires
 invert-points-requires c κs = search needs
 
@@ -24,9 +27,6 @@ same-length c = search needs
 
 returns : tie.Need-returns
 returns c = search passed-on-with
-
-leave-requires : tie.Need-leave-requires
-leave-requires c κs = search needs
 
 leave-requires-2 : tie.Need-leave-requires-2
 leave-requires-2 c κs = search needs
@@ -43,12 +43,12 @@ substitute-points-spec =
     (tie.spec
     enter-requires
     enter-requires-2
+    leave-requires
     invert-points-requires
     enum-known-inverted
     enum-told
     same-length
     returns
-    leave-requires
     leave-requires-2
     same-length-2
     returns-2)
