@@ -50,7 +50,7 @@ fn leave(direction: Direction, x: u8, constant: u8) -> u8
 }
 
 // The S-box on a masked byte: data and mask go in and come back each on its own way, and meet in the inversion alone.
-// The mask comes back before the data does: done together, the compiler puts both into one register.
+// The mask's way back depends on the record alone, so it is taken apart from the data's.
 pub fn substitute(direction: Direction, data: u8, mask: u8, record: Record) -> Masked
     ensures { λ v. ⌜ byteAndMask v ≡ substituted direction «data» mask «record» ⌝ }
 {

@@ -1,0 +1,4 @@
+pub mod Front
+pub mod Chosen
+pub mod Bytes
+pub mod Columns

@@ -1,0 +1,190 @@
+// The linear steps of FIPS 197, each on one part alone, data or mask.
+ghost use mathlib.Core.Path.{_≡_};
+ghost use lib.ListN.{length};
+ghost use Rattle.fips197.specs.Field.{xtime};
+ghost use Rattle.fips197.specs.Cipher.{_⊞_, shiftRows, mixColumns, invShiftRows, invMixColumns};
+ghost use Rattle.aes.specs.Steps.{onState, keyed};
+ghost use Rattle.aes.specs.Inner.{mixByte, mixColumn, invMixByte, invMixColumn};
+
+// 4.2 xtime, straight through: the bit that leaves multiplies the polynomial, so that no byte decides a jump.
+fn double(b: u8) -> u8
+    ensures { λ r. ⌜ r ≡ xtime b ⌝ }
+{
+    (b << 1) ^ ((b >> 7) * 0x1b)
+}
+
+// Row 1 moves by one column, row 2 by two, row 3 by three.
+fn shift_state_rows(part: &mut [u8])
+    requires { ⌜ length (now part) ≡ 16 ⌝ }
+    ensures { λ _. ⌜ now (part .exit) ≡ shiftRows (now (part .entry)) ⌝ }
+{
+    let a = part[1];
+    part[1] = part[5];
+    part[5] = part[9];
+    part[9] = part[13];
+    part[13] = a;
+    let b = part[2];
+    part[2] = part[10];
+    part[10] = b;
+    let c = part[6];
+    part[6] = part[14];
+    part[14] = c;
+    let d = part[15];
+    part[15] = part[11];
+    part[11] = part[7];
+    part[7] = part[3];
+    part[3] = d;
+}
+
+// 5.1.2 ShiftRows
+pub fn shift_rows(part: &mut [u8])
+    ensures { λ _. ⌜ now (part .exit) ≡ onState shiftRows (now (part .entry)) ⌝ }
+{
+    if part.len() == 16 {
+        shift_state_rows(part);
+    }
+}
+
+// The rows move back the other way.
+fn inverse_shift_state_rows(part: &mut [u8])
+    requires { ⌜ length (now part) ≡ 16 ⌝ }
+    ensures { λ _. ⌜ now (part .exit) ≡ invShiftRows (now (part .entry)) ⌝ }
+{
+    let a = part[13];
+    part[13] = part[9];
+    part[9] = part[5];
+    part[5] = part[1];
+    part[1] = a;
+    let b = part[10];
+    part[10] = part[2];
+    part[2] = b;
+    let c = part[14];
+    part[14] = part[6];
+    part[6] = c;
+    let d = part[3];
+    part[3] = part[7];
+    part[7] = part[11];
+    part[11] = part[15];
+    part[15] = d;
+}
+
+// 5.3.1 InvShiftRows
+pub fn inverse_shift_rows(part: &mut [u8])
+    ensures { λ _. ⌜ now (part .exit) ≡ onState invShiftRows (now (part .entry)) ⌝ }
+{
+    if part.len() == 16 {
+        inverse_shift_state_rows(part);
+    }
+}
+
+// The sum of two parts of one length, byte by byte.
+fn add_key(part: &mut [u8], key: &[u8])
+    requires { ⌜ length (now part) ≡ length (now key) ⌝ }
+    ensures { λ _. ⌜ now (part .exit) ≡ now (part .entry) ⊞ now (key .entry) ⌝ }
+{
+    let mut i = 0;
+    while i < part.len() {
+        part[i] = part[i] ^ key[i];
+        i += 1;
+    }
+}
+
+// 5.1.4 AddRoundKey. The round is held against the number of round keys first, so that its product cannot overflow.
+pub fn add_round_key(part: &mut [u8], keys: &[u8], round: usize)
+    ensures { λ _. ⌜ now (part .exit) ≡ keyed (now (part .entry)) (now (keys .entry)) round ⌝ }
+{
+    if part.len() != 16 {
+        return;
+    }
+    if keys.len() / 16 <= round {
+        return;
+    }
+    let at = 16 * round;
+    let from = &keys[at..];
+    add_key(part, &from[0..16]);
+}
+
+// 5.1.3 a byte of a mixed column: a is the byte of its own row, the others those of the rows below it, in turn.
+fn mix_byte(a: u8, b: u8, c: u8, d: u8) -> u8
+    ensures { λ r. ⌜ r ≡ mixByte a b c d ⌝ }
+{
+    double(a) ^ (double(b) ^ b) ^ c ^ d
+}
+
+fn mix_column(column: &mut [u8])
+    requires { ⌜ length (now column) ≡ 4 ⌝ }
+    ensures { λ _. ⌜ now (column .exit) ≡ mixColumn (now (column .entry)) ⌝ }
+{
+    let a = column[0];
+    let b = column[1];
+    let c = column[2];
+    let d = column[3];
+    column[0] = mix_byte(a, b, c, d);
+    column[1] = mix_byte(b, c, d, a);
+    column[2] = mix_byte(c, d, a, b);
+    column[3] = mix_byte(d, a, b, c);
+}
+
+// Each column is rewritten where it stands.
+fn mix_state_columns(part: &mut [u8])
+    requires { ⌜ length (now part) ≡ 16 ⌝ }
+    ensures { λ _. ⌜ now (part .exit) ≡ mixColumns (now (part .entry)) ⌝ }
+{
+    mix_column(&mut part[0..4]);
+    mix_column(&mut part[4..8]);
+    mix_column(&mut part[8..12]);
+    mix_column(&mut part[12..16]);
+}
+
+// 5.1.3 MixColumns
+pub fn mix_columns(part: &mut [u8])
+    ensures { λ _. ⌜ now (part .exit) ≡ onState mixColumns (now (part .entry)) ⌝ }
+{
+    if part.len() == 16 {
+        mix_state_columns(part);
+    }
+}
+
+// 5.3.3 0e a + 0b b + 0d c + 09 d: what has a term x^3 is doubled three times, x^2 twice, x once.
+fn inverse_mix_byte(a: u8, b: u8, c: u8, d: u8) -> u8
+    ensures { λ r. ⌜ r ≡ invMixByte a b c d ⌝ }
+{
+    let x = double(a ^ b ^ c ^ d);
+    let y = double(x ^ a ^ c);
+    let z = double(y ^ a ^ b);
+    z ^ b ^ c ^ d
+}
+
+fn inverse_mix_column(column: &mut [u8])
+    requires { ⌜ length (now column) ≡ 4 ⌝ }
+    ensures { λ _. ⌜ now (column .exit) ≡ invMixColumn (now (column .entry)) ⌝ }
+{
+    let a = column[0];
+    let b = column[1];
+    let c = column[2];
+    let d = column[3];
+    column[0] = inverse_mix_byte(a, b, c, d);
+    column[1] = inverse_mix_byte(b, c, d, a);
+    column[2] = inverse_mix_byte(c, d, a, b);
+    column[3] = inverse_mix_byte(d, a, b, c);
+}
+
+// Each column is rewritten where it stands.
+fn inverse_mix_state_columns(part: &mut [u8])
+    requires { ⌜ length (now part) ≡ 16 ⌝ }
+    ensures { λ _. ⌜ now (part .exit) ≡ invMixColumns (now (part .entry)) ⌝ }
+{
+    inverse_mix_column(&mut part[0..4]);
+    inverse_mix_column(&mut part[4..8]);
+    inverse_mix_column(&mut part[8..12]);
+    inverse_mix_column(&mut part[12..16]);
+}
+
+// 5.3.3 InvMixColumns
+pub fn inverse_mix_columns(part: &mut [u8])
+    ensures { λ _. ⌜ now (part .exit) ≡ onState invMixColumns (now (part .entry)) ⌝ }
+{
+    if part.len() == 16 {
+        inverse_mix_state_columns(part);
+    }
+}
