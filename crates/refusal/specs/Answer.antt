@@ -4,6 +4,8 @@ use mathlib.Core.List.{List, [], _∷_}
 use mathlib.Core.Bool.{Bool, true, false, not}
 use lib.Dec.{eqb, ltb}
 use Rattle.refusal.specs.declared.Refusal.{Refusal}
+use Rattle.refusal.specs.declared.Outcome.{Outcome}
+use Rattle.refusal.specs.declared.Outcome.the-variants.{Done, Refused}
 use Rattle.refusal.specs.Refusal.{number, refusal}
 
 pub data Answer (A : Type 0) : Type 0 where
@@ -14,6 +16,11 @@ pub data Answer (A : Type 0) : Type 0 where
 abbrev pub answerNumber : {A : Type 0} → Answer A → ℕ
 answerNumber (done a) = 0
 answerNumber (refused r) = number r
+
+-- what an answer without a value says
+abbrev pub outcome : Outcome → Answer (Unit {0})
+outcome Done = done tt
+outcome (Refused r) = refused r
 
 -- "The first that applies is given": the refusal numbers in their order, each with whether it applies; what a refusal gives; and what is given where none applies
 unfoldable pub first : {X : Type 0} → List (ℕ × Bool) → (Refusal → X) → X → X

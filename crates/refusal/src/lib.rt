@@ -1,4 +1,4 @@
-// Refusals: the kind of thing refused together with its number, the answer of a check, and the checks that every crate shares.
+// Refusals: the kind of thing refused together with its number, the answers of a check and of a call without a value, and the checks that every crate shares.
 ghost use mathlib.Core.Path.{_≡_};
 ghost use Rattle.refusal.specs.Refusal.{failed};
 ghost use Rattle.refusal.specs.Answer.{above, either, isNot};
@@ -14,6 +14,12 @@ pub enum Refusal {
 pub enum Check {
     Passed,
     Failed,
+}
+
+// What a call answers that has no value of its own: what it makes stands in the parts it was lent.
+pub enum Outcome {
+    Done,
+    Refused(Refusal),
 }
 
 // Fails where x is above the most allowed.

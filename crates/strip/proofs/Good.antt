@@ -7,10 +7,10 @@ use native.Mathlib.Omega.{arith}
 use lib.ListN.{length, getD, take, drop}
 use lib.Dec.{eqb}
 use borrow.Author.Tests.{le-ltb, ltb-false, eqb-true, not-false}
-use Rattle.refusal.specs.Answer.{done, refused, first, above, either, isNot}
-use Rattle.strip.specs.declared.Form.{Form}
-use Rattle.strip.specs.declared.Form.the-variants.{Good}
-use Rattle.strip.specs.Strip.{version, keySize, recordBytes, both, sameForm, badFraming, spent, unknownVersion, wrongRecordBytes, badThird, badRecord, form, formOf, wholeRecord, recordPart}
+use Rattle.refusal.specs.Answer.{done, refused, first, above, either, isNot, outcome}
+use Rattle.refusal.specs.declared.Outcome.{Outcome}
+use Rattle.refusal.specs.declared.Outcome.the-variants.{Done}
+use Rattle.strip.specs.Strip.{version, keySize, recordBytes, both, sameForm, badFraming, spent, unknownVersion, wrongRecordBytes, badThird, badRecord, formOf, wholeRecord, recordPart}
 use Rattle.strip.proofs.Laws.{either-false, third-at}
 
 pub record Fit (s : List ℕ) (size : ℕ) : Type 0 where
@@ -78,9 +78,9 @@ module _ (s : List ℕ) where
   thirds : badRecord s ≡ false → (i : ℕ) → 4 + 3 * i + 3 ≤ length s → getD s (4 + 3 * i + 2) 0 ≤ 3
   thirds e i h = ltb-false 3 (getD s (4 + 3 * i + 2) 0) (either-false (above 3 (getD s (4 + 3 * i + 2) 0)) _ (sym (third-at s i h) ∙ still e i (omega arith)))
 
-pub good : (s : List ℕ) (size : ℕ) (f : Form) → form f ≡ formOf s size → f ≡ Good → Fit s size
+pub good : (s : List ℕ) (size : ℕ) (f : Outcome) → outcome f ≡ formOf s size → f ≡ Done → Fit s size
 good s size f e g =
-    let p7 = passed 7 (badFraming s) _ tt (sym e ∙ ap form g) in
+    let p7 = passed 7 (badFraming s) _ tt (sym e ∙ ap outcome g) in
     let p11 = passed 11 (spent s) _ tt (p7 .1) in
     let p8 = passed 8 (unknownVersion s) _ tt (p11 .1) in
     let p9 = passed 9 (isNot size (keySize s)) _ tt (p8 .1) in

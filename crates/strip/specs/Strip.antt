@@ -5,8 +5,6 @@ use mathlib.Core.Bool.{Bool, true, false, not}
 use lib.ListN.{length, getD, take, drop, set, replicate}
 use lib.Dec.{eqb, ltb}
 use Rattle.refusal.specs.Answer.{Answer, done, refused, first, above, either, isNot}
-use Rattle.strip.specs.declared.Form.{Form}
-use Rattle.strip.specs.declared.Form.the-variants.{Good, Refused}
 
 -- "two bytes of length, big-endian, counting all that follows; one version byte; one key-size byte; then one record for each S-box"
 abbrev pub lengthField : List ℕ → ℕ
@@ -69,9 +67,6 @@ checkList s size =
     (7, badFraming s) ∷ (11, spent s) ∷ (8, unknownVersion s) ∷ (9, isNot size (keySize s)) ∷ (12, wrongRecordBytes s) ∷ (10, badRecord s) ∷ []
 
 -- what the check of a strip answers
-abbrev pub form : Form → Answer (Unit {0})
-form Good = done tt
-form (Refused r) = refused r
 
 abbrev pub formOf : List ℕ → ℕ → Answer (Unit {0})
 formOf s size = first (checkList s size) refused (done tt)

@@ -3,17 +3,12 @@ ghost use mathlib.Core.Path.{_≡_};
 ghost use Prim.Native.Nat.{_≤_};
 ghost use lib.ListN.{length, replicate};
 ghost use Rattle.refusal.specs.Refusal.{failed};
-ghost use Rattle.refusal.specs.Answer.{isNot};
-ghost use Rattle.strip.specs.Strip.{keySize, badFraming, spent, unknownVersion, wrongRecordBytes, badRecord, form, formOf, recordPart, wiped};
+ghost use Rattle.refusal.specs.Answer.{isNot, outcome};
+ghost use Rattle.strip.specs.Strip.{keySize, badFraming, spent, unknownVersion, wrongRecordBytes, badRecord, formOf, recordPart, wiped};
 ghost use Rattle.strip.specs.Inner.{restOf};
 use refusal::Check;
+use refusal::Outcome;
 use refusal::Refusal;
-
-// A strip of the right form, or its refusal.
-pub enum Form {
-    Good,
-    Refused(Refusal),
-}
 
 // 7: the two bytes are widened before they are joined, so that nothing overflows.
 fn check_framing(strip: &[u8]) -> Check
@@ -101,34 +96,34 @@ fn check_records(strip: &[u8]) -> Check
 }
 
 // The refusals of a strip whose framing and version are good: 9, 12, 10.
-fn check_rest(strip: &[u8], key_size: u8) -> Form
+fn check_rest(strip: &[u8], key_size: u8) -> Outcome
     requires { ⌜ 4 ≤ length (now strip) ⌝ }
-    ensures { λ r. ⌜ form r ≡ restOf (now (strip .entry)) «key_size» ⌝ }
+    ensures { λ r. ⌜ outcome r ≡ restOf (now (strip .entry)) «key_size» ⌝ }
 {
     let Check::Passed = check_key_size(strip, key_size) else {
-        return Form::Refused(Refusal::Strip(9));
+        return Outcome::Refused(Refusal::Strip(9));
     };
     let Check::Passed = check_record_bytes(strip) else {
-        return Form::Refused(Refusal::Strip(12));
+        return Outcome::Refused(Refusal::Strip(12));
     };
     let Check::Passed = check_records(strip) else {
-        return Form::Refused(Refusal::Strip(10));
+        return Outcome::Refused(Refusal::Strip(10));
     };
-    Form::Good
+    Outcome::Done
 }
 
 // A strip's own refusals for a block under round keys of this key size: 7, 11, 8, 9, 12, 10.
-pub fn check(strip: &[u8], key_size: u8) -> Form
-    ensures { λ r. ⌜ form r ≡ formOf (now (strip .entry)) «key_size» ⌝ }
+pub fn check(strip: &[u8], key_size: u8) -> Outcome
+    ensures { λ r. ⌜ outcome r ≡ formOf (now (strip .entry)) «key_size» ⌝ }
 {
     let Check::Passed = check_framing(strip) else {
-        return Form::Refused(Refusal::Strip(7));
+        return Outcome::Refused(Refusal::Strip(7));
     };
     let Check::Passed = check_unspent(strip) else {
-        return Form::Refused(Refusal::Strip(11));
+        return Outcome::Refused(Refusal::Strip(11));
     };
     let Check::Passed = check_version(strip) else {
-        return Form::Refused(Refusal::Strip(8));
+        return Outcome::Refused(Refusal::Strip(8));
     };
     check_rest(strip, key_size)
 }
