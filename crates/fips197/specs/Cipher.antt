@@ -22,6 +22,10 @@ unfoldable pub state : (ℕ → ℕ → ℕ) → List ℕ
 state f =
     f 0 0 ∷ f 1 0 ∷ f 2 0 ∷ f 3 0 ∷ f 0 1 ∷ f 1 1 ∷ f 2 1 ∷ f 3 1 ∷ f 0 2 ∷ f 1 2 ∷ f 2 2 ∷ f 3 2 ∷ f 0 3 ∷ f 1 3 ∷ f 2 3 ∷ f 3 3 ∷ []
 
+-- 5 the number of rounds for a key of nk words: 10, 12 and 14 for 4, 6 and 8
+abbrev pub roundsFor : ℕ → ℕ
+roundsFor nk = nk + 6
+
 -- 5.1.1 SubBytes: the inverse, then the affine step, whose linear part is written first
 unfoldable pub bit : ℕ → ℕ → ℕ
 bit b i = b / 2 ^ i % 2

@@ -10,7 +10,11 @@ use Rattle.refusal.specs.declared.Refusal.{Refusal}
 use Rattle.refusal.specs.declared.Check.{Check}
 use Rattle.refusal.specs.declared.Check.the-variants.{Passed, Failed}
 use Rattle.refusal.specs.Refusal.{refusal, failed}
-use Rattle.refusal.specs.Answer.{Answer, done, refused, first, either, isNot}
+use Rattle.refusal.specs.Answer.{Answer, done, refused, first, either, both, isNot, noneOf}
+
+both-on : (b : Bool) → b ≡ both b true
+both-on true = refl
+both-on false = refl
 
 module _ {X : Type 0} (n : ℕ) (b : Bool) (checks : List (ℕ × Bool)) (deny : Refusal → X) (give x : X) (k : Check) where
   pub first-stop : failed k ≡ b → k ≡ Failed → x ≡ deny (refusal n) → x ≡ first ((n, b) ∷ checks) deny give
@@ -28,6 +32,17 @@ first-done deny give x h = h
 -- what a check that passed has shown
 pub passed-is : (wanted n : ℕ) (k : Check) → failed k ≡ isNot wanted n → k ≡ Passed → n ≡ wanted
 passed-is wanted n k e p = eqb-true n wanted (not-false (eqb n wanted) (sym e ∙ ap failed p))
+
+-- a check among several lengths: this one is it, or it is looked for among the others
+module _ (wanted x : ℕ) (others : List ℕ) (k : Check) where
+  pub none-found : failed k ≡ isNot wanted x → k ≡ Passed → false ≡ noneOf (wanted ∷ others) x
+  none-found e p = ap (λ (t : Bool). both t (noneOf others x)) (sym (ap failed p) ∙ e)
+
+  pub none-yet : (b : Bool) → failed k ≡ isNot wanted x → k ≡ Failed → b ≡ noneOf others x → b ≡ noneOf (wanted ∷ others) x
+  none-yet b e f h = h ∙ ap (λ (t : Bool). both t (noneOf others x)) (sym (ap failed f) ∙ e)
+
+pub none-last : (wanted x : ℕ) (b : Bool) → b ≡ isNot wanted x → b ≡ noneOf (wanted ∷ []) x
+none-last wanted x b e = e ∙ both-on (isNot wanted x)
 
 -- two checks as one: the first failed, or the second decides
 pub either-first : (a b : Bool) (k : Check) → failed k ≡ a → k ≡ Failed → true ≡ either a b

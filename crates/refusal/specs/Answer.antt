@@ -28,7 +28,7 @@ first [] deny give = give
 first ((n, true) ∷ checks) deny give = deny (refusal n)
 first ((n, false) ∷ checks) deny give = first checks deny give
 
--- what checks ask: whether a number is above the most allowed, whether one of two things applies, whether a number is not the one wanted
+-- what checks ask: whether a number is above the most allowed, whether one of two things applies or both do, whether a number is not the one wanted, or none of those wanted
 abbrev pub above : ℕ → ℕ → Bool
 above most x = ltb most x
 
@@ -36,5 +36,13 @@ abbrev pub either : Bool → Bool → Bool
 either true b = true
 either false b = b
 
+abbrev pub both : Bool → Bool → Bool
+both true b = b
+both false b = false
+
 abbrev pub isNot : ℕ → ℕ → Bool
 isNot wanted x = not (eqb x wanted)
+
+abbrev pub noneOf : List ℕ → ℕ → Bool
+noneOf [] x = true
+noneOf (wanted ∷ others) x = both (isNot wanted x) (noneOf others x)

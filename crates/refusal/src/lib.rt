@@ -1,7 +1,8 @@
 // Refusals: the kind of thing refused together with its number, the answers of a check and of a call without a value, and the checks that every crate shares.
 ghost use mathlib.Core.Path.{_≡_};
+ghost use mathlib.Core.List.{[], _∷_};
 ghost use Rattle.refusal.specs.Refusal.{failed};
-ghost use Rattle.refusal.specs.Answer.{above, either, isNot};
+ghost use Rattle.refusal.specs.Answer.{above, either, isNot, noneOf};
 
 pub enum Refusal {
     Operand(u8),
@@ -52,4 +53,17 @@ pub fn check_length(length: usize, wanted: usize) -> Check
     } else {
         Check::Failed
     }
+}
+
+// Fails where a length is none of the three wanted.
+pub fn check_lengths(length: usize, one: usize, two: usize, three: usize) -> Check
+    ensures { λ c. ⌜ failed c ≡ noneOf (one ∷ two ∷ three ∷ []) length ⌝ }
+{
+    let Check::Failed = check_length(length, one) else {
+        return Check::Passed;
+    };
+    let Check::Failed = check_length(length, two) else {
+        return Check::Passed;
+    };
+    check_length(length, three)
 }

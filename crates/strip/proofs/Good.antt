@@ -7,10 +7,10 @@ use native.Mathlib.Omega.{arith}
 use lib.ListN.{length, getD, take, drop}
 use lib.Dec.{eqb}
 use borrow.Author.Tests.{le-ltb, ltb-false, eqb-true, not-false}
-use Rattle.refusal.specs.Answer.{done, refused, first, above, either, isNot, outcome}
+use Rattle.refusal.specs.Answer.{done, refused, first, above, either, both, isNot, outcome}
 use Rattle.refusal.specs.declared.Outcome.{Outcome}
 use Rattle.refusal.specs.declared.Outcome.the-variants.{Done}
-use Rattle.strip.specs.Strip.{version, keySize, recordBytes, both, sameForm, badFraming, spent, unknownVersion, wrongRecordBytes, badThird, badRecord, formOf, wholeRecord, recordPart}
+use Rattle.strip.specs.Strip.{version, keySize, recordBytes, sameForm, badFraming, spent, unknownVersion, wrongRecordBytes, badThird, badRecord, formOf, wholeRecord, recordPart}
 use Rattle.strip.proofs.Laws.{either-false, third-at}
 
 pub record Fit (s : List ℕ) (size : ℕ) : Type 0 where

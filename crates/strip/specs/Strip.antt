@@ -4,7 +4,7 @@ use mathlib.Core.List.{List, [], _∷_, _++_}
 use mathlib.Core.Bool.{Bool, true, false, not}
 use lib.ListN.{length, getD, take, drop, set, replicate}
 use lib.Dec.{eqb, ltb}
-use Rattle.refusal.specs.Answer.{Answer, done, refused, first, above, either, isNot}
+use Rattle.refusal.specs.Answer.{Answer, done, refused, first, above, either, both, isNot}
 
 -- "two bytes of length, big-endian, counting all that follows; one version byte; one key-size byte; then one record for each S-box"
 abbrev pub lengthField : List ℕ → ℕ
@@ -22,10 +22,6 @@ recordBytes s = length s - 4
 -- the forms of a strip: its version, its key size and its number of record bytes, three for each of 160, 192 or 224 S-boxes
 abbrev pub forms : List (ℕ × (ℕ × ℕ))
 forms = (1, (16, 3 * 160)) ∷ (1, (24, 3 * 192)) ∷ (1, (32, 3 * 224)) ∷ []
-
-abbrev pub both : Bool → Bool → Bool
-both true b = b
-both false b = false
 
 abbrev pub sameForm : (ℕ × (ℕ × ℕ)) → (ℕ × (ℕ × ℕ)) → Bool
 sameForm (v, (k, n)) (w, (l, m)) = both (eqb v w) (both (eqb k l) (eqb n m))
