@@ -32,6 +32,10 @@ module _ (s w x : List ℕ) (round : ℕ) where
   unfolding keyed
   no-key h k e = rw (eq-eqb (length s) 16 h, lt-leb (16 * round + 16) (length w) (omega arith)) e
 
+  pub key-there : length s ≡ 16 → 16 * round + 16 ≤ length w → x ≡ addRoundKey s w round → x ≡ keyed s w round
+  unfolding keyed
+  key-there h k e = rw (eq-eqb (length s) 16 h, le-leb (16 * round + 16) (length w) k) e
+
   -- the code takes the round's key from the front of what begins there
   key-taken : 16 * round + 16 ≤ length w → take 16 (take (length w - 16 * round) (drop (16 * round) w)) ≡ roundKey w round
   unfolding roundKey
@@ -39,7 +43,7 @@ module _ (s w x : List ℕ) (round : ℕ) where
 
   pub key-added : length s ≡ 16 → round < length w / 16 → x ≡ s ⊞ take 16 (take (length w - 16 * round) (drop (16 * round) w))
       → x ≡ keyed s w round
-  unfolding keyed addRoundKey
+  unfolding addRoundKey
   key-added h k e =
       let enough : 16 * round + 16 ≤ length w = omega arith in
-      rw (eq-eqb (length s) 16 h, le-leb (16 * round + 16) (length w) enough) (e ∙ ap (λ (t : List ℕ). s ⊞ t) (key-taken enough))
+      key-there h enough (e ∙ ap (λ (t : List ℕ). s ⊞ t) (key-taken enough))

@@ -7,7 +7,7 @@ ghost use Rattle.aes.specs.Steps.{onState, keyed};
 ghost use Rattle.aes.specs.Inner.{mixByte, mixColumn, invMixByte, invMixColumn};
 
 // 4.2 xtime, straight through: the bit that leaves multiplies the polynomial, so that no byte decides a jump.
-fn double(b: u8) -> u8
+pub fn double(b: u8) -> u8
     ensures { λ r. ⌜ r ≡ xtime b ⌝ }
 {
     (b << 1) ^ ((b >> 7) * 0x1b)

@@ -43,7 +43,7 @@ pub product-left : (b : ℕ) → Additive (λ a. a • b)
 unfolding _•_
 product-left b x y = ap (λ (a : ℕ). timesBits 8 a (b % 256)) (cut x y) ∙ bits-left 8 (b % 256) (x % 256) (y % 256)
 
-xtime-lt : (a : ℕ) → a < 256 → xtime a < 256
+pub xtime-lt : (a : ℕ) → a < 256 → xtime a < 256
 unfolding field
 xtime-lt a h = ltb→lt (xtime a) 256 (all-at 256 (λ a. ltb (xtime a) 256) tt a h)
 

@@ -6,4 +6,5 @@ pub mod Field
 pub mod Affine
 pub mod State
 pub mod Undo
+pub mod Words
 pub mod Claims

@@ -19,23 +19,23 @@ use Rattle.fips197.proofs.State.{plus-off, length-plus, length-state}
 
 -- ---- lists of bytes
 
-byte-at : (l : List ℕ) → Bytes l → (i : ℕ) → getD l i 0 < 256
+pub byte-at : (l : List ℕ) → Bytes l → (i : ℕ) → getD l i 0 < 256
 byte-at [] h i = lit< tt
 byte-at (x ∷ l) h zero = h .0
 byte-at (x ∷ l) h (suc i) = byte-at l (h .1) i
 
-bytes-plus : (a b : List ℕ) → Bytes a → Bytes b → Bytes (a ⊞ b)
+pub bytes-plus : (a b : List ℕ) → Bytes a → Bytes b → Bytes (a ⊞ b)
 unfolding _⊞_
 bytes-plus [] b ha hb = hb
 bytes-plus (x ∷ a) [] ha hb = ha
 bytes-plus (x ∷ a) (y ∷ b) ha hb = (lt 8 x y (ha .0) (hb .0), bytes-plus a b (ha .1) (hb .1))
 
-bytes-take : (n : ℕ) (l : List ℕ) → Bytes l → Bytes (take n l)
+pub bytes-take : (n : ℕ) (l : List ℕ) → Bytes l → Bytes (take n l)
 bytes-take zero l h = tt
 bytes-take (suc n) [] h = tt
 bytes-take (suc n) (x ∷ l) h = (h .0, bytes-take n l (h .1))
 
-bytes-drop : (n : ℕ) (l : List ℕ) → Bytes l → Bytes (drop n l)
+pub bytes-drop : (n : ℕ) (l : List ℕ) → Bytes l → Bytes (drop n l)
 bytes-drop zero l h = h
 bytes-drop (suc n) [] h = tt
 bytes-drop (suc n) (x ∷ l) h = bytes-drop n l (h .1)
@@ -79,7 +79,7 @@ four P a b c d (suc (suc zero)) h = c
 four P a b c d (suc (suc (suc zero))) h = d
 four P a b c d (suc (suc (suc (suc r)))) h = absurd (omega arith)
 
-cell-of : (f : ℕ → ℕ → ℕ) (r c : ℕ) → r < 4 → c < 4 → cell (state f) r c ≡ f r c
+pub cell-of : (f : ℕ → ℕ → ℕ) (r c : ℕ) → r < 4 → c < 4 → cell (state f) r c ≡ f r c
 unfolding cell state
 cell-of f r c h g =
     four (λ r. cell (state f) r c ≡ f r c) (row 0 refl refl refl refl) (row 1 refl refl refl refl) (row 2 refl refl refl refl) (row 3 refl refl refl refl) r h
@@ -179,7 +179,7 @@ key-undone s w i h = plus-off s (roundKey w i) (omega (arith, key-short w i))
 
 -- ---- the steps keep states
 
-sbox-lt : (b : ℕ) → sbox b < 256
+pub sbox-lt : (b : ℕ) → sbox b < 256
 unfolding sbox
 sbox-lt b = affine-lt (inverse b) (inverse-lt b)
 

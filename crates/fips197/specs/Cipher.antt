@@ -90,7 +90,7 @@ power (suc j) = xtime (power j)
 unfoldable pub rcon : ℕ → List ℕ
 rcon j = power (j - 1) ∷ 0 ∷ 0 ∷ 0 ∷ []
 
-abbrev choose : Bool → List ℕ → List ℕ → List ℕ
+abbrev pub choose : Bool → List ℕ → List ℕ → List ℕ
 choose true x y = x
 choose false x y = y
 

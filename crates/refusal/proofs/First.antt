@@ -2,7 +2,7 @@
 use Prim.Native.Nat.{ℕ}
 use mathlib.Core.Path.{_≡_, refl, sym, ap, _∙_}
 use mathlib.Core.List.{List, [], _∷_}
-use mathlib.Core.Bool.{Bool, true, false}
+use mathlib.Core.Bool.{Bool, true, false, not}
 use native.Mathlib.Omega.{arith}
 use lib.Dec.{eqb}
 use borrow.Author.Tests.{eqb-true, not-false}
@@ -44,6 +44,17 @@ module _ (wanted x : ℕ) (others : List ℕ) (k : Check) where
 pub none-last : (wanted x : ℕ) (b : Bool) → b ≡ isNot wanted x → b ≡ noneOf (wanted ∷ []) x
 none-last wanted x b e = e ∙ both-on (isNot wanted x)
 
+one-of : {P : Type 0} (x y z : Bool) → both (not x) (both (not y) (both (not z) true)) ≡ false → (x ≡ true → P) → (y ≡ true → P) → (z ≡ true → P) → P
+one-of true y z e f g h = f refl
+one-of false true z e f g h = g refl
+one-of false false true e f g h = h refl
+one-of false false false e f g h = let t : _≡_ {A = ℕ} 0 1 = cc in absurd (omega arith)
+
+-- which of three lengths a check that passed has found
+pub found : {P : Type 0} (a b c n : ℕ) (k : Check) → failed k ≡ noneOf (a ∷ b ∷ c ∷ []) n → k ≡ Passed → (n ≡ a → P) → (n ≡ b → P) → (n ≡ c → P) → P
+found a b c n k e p f g h =
+    one-of (eqb n a) (eqb n b) (eqb n c) (sym e ∙ ap failed p) (λ x. f (eqb-true n a x)) (λ x. g (eqb-true n b x)) (λ x. h (eqb-true n c x))
+
 -- two checks as one: the first failed, or the second decides
 pub either-first : (a b : Bool) (k : Check) → failed k ≡ a → k ≡ Failed → true ≡ either a b
 either-first a b k e f = ap (λ (t : Bool). either t b) (sym (ap failed f) ∙ e)
@@ -68,3 +79,17 @@ module _ {X A : Type 0} (deny : Refusal → X) (tell : X → Answer A) (tells : 
       let f : refused (refusal n) ≡ done v = sym (tells (refusal n)) ∙ ap tell (sym e) ∙ t in
       let z : _≡_ {A = ℕ} 0 1 = cc in absurd (omega arith)
   answer-passed ((n, false) ∷ checks) give give′ x v t e = answer-passed checks give give′ x v t e
+
+-- what the checks alone answered, for a call that also lends parts
+module _ {X : Type 0} (deny : Refusal → X) (give : X) where
+  pub all-passed : (checks : List (ℕ × Bool)) (x : Answer (Unit {0})) → x ≡ first checks refused (done tt) → x ≡ done tt → give ≡ first checks deny give
+  unfolding first
+  all-passed [] x e f = refl
+  all-passed ((n, true) ∷ checks) x e f = let z : _≡_ {A = ℕ} 0 1 = cc in absurd (omega arith)
+  all-passed ((n, false) ∷ checks) x e f = all-passed checks x e f
+
+  pub one-failed : (checks : List (ℕ × Bool)) (x : Answer (Unit {0})) (r : Refusal) → x ≡ first checks refused (done tt) → x ≡ refused r → deny r ≡ first checks deny give
+  unfolding first
+  one-failed [] x r e f = let z : _≡_ {A = ℕ} 0 1 = cc in absurd (omega arith)
+  one-failed ((n, true) ∷ checks) x r e f = let g : refusal n ≡ r = cc in ap deny (sym g)
+  one-failed ((n, false) ∷ checks) x r e f = one-failed checks x r e f

@@ -1,6 +1,6 @@
 -- What is claimed of the masked S-box. Each claim is proved in proofs/Claims.antt.
 use mathlib.Core.Path.{_≡_}
-use Prim.Native.Nat.{ℕ, _<_}
+use Prim.Native.Nat.{ℕ}
 use Rattle.fips197.specs.Field.{_⊕_, inverse}
 use Rattle.fips197.specs.Cipher.{sbox, invSbox}
 use Rattle.tower.specs.Tower.{toTower, fromTower, byteInverse}
@@ -10,9 +10,9 @@ use Rattle.sbox.specs.declared.Direction.{Direction}
 use Rattle.sbox.specs.declared.Direction.the-variants.{Encrypt, Decrypt}
 use Rattle.sbox.specs.Sbox.{newByte, newMask}
 
--- the tower's inverse, brought back, is the standard's
+-- the tower's inverse, brought back, is the standard's; what stands above the eight bits of a byte is read by neither
 abbrev pub InverseIsField : Type 0
-InverseIsField = (a : ℕ) → a < 256 → fromTower (byteInverse (toTower a)) ≡ inverse a
+InverseIsField = (a : ℕ) → fromTower (byteInverse (toTower a)) ≡ inverse a
 
 -- what FIPS 197 makes of a bare byte
 abbrev pub bareBox : Direction → ℕ → ℕ
@@ -21,4 +21,4 @@ bareBox Decrypt b = invSbox b
 
 -- Demand 2 of one S-box: take the outgoing mask off, and it is FIPS 197 of the data without its mask.
 abbrev pub BoxIsRight : Type 0
-BoxIsRight = (dir : Direction) (d m : ℕ) (ρ : Record) → d < 256 → m < 256 → Good ρ → newByte dir d m ρ ⊕ newMask dir ρ ≡ bareBox dir (d ⊕ m)
+BoxIsRight = (dir : Direction) (d m : ℕ) (ρ : Record) → Good ρ → newByte dir d m ρ ⊕ newMask dir ρ ≡ bareBox dir (d ⊕ m)

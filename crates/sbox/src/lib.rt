@@ -1,6 +1,6 @@
-// The masked S-box and its inverse, with and without points.
+// The masked S-box and its inverse, with and without points; and the bare S-box, for key expansion.
 ghost use mathlib.Core.Path.{_≡_};
-ghost use Rattle.fips197.specs.Cipher.{linear, invLinear};
+ghost use Rattle.fips197.specs.Cipher.{linear, invLinear, sbox};
 ghost use Rattle.inversion.specs.Answers.{byteAndMask};
 ghost use Rattle.sbox.specs.Sbox.{enter, leave, substituted, substitutedWithPoints};
 use inversion::Masked;
@@ -27,6 +27,15 @@ fn inverse_linear(x: u8) -> u8
     ensures { λ r. ⌜ r ≡ invLinear x ⌝ }
 {
     ((x << 1) | (x >> 7)) ^ ((x << 3) | (x >> 5)) ^ ((x << 6) | (x >> 2))
+}
+
+// The S-box on a bare byte, for key expansion alone, whose bytes have no mask.
+pub fn bare(b: u8) -> u8
+    ensures { λ r. ⌜ r ≡ sbox b ⌝ }
+{
+    let entered = tower::to_tower(b);
+    let inverted = tower::byte_inverse(entered);
+    linear(tower::from_tower(inverted)) ^ 0x63
 }
 
 // One part on its way to the inversion, with the constant that is its own: 05 for the data, none for the mask.

@@ -1,0 +1,26 @@
+-- `expansion::rotated` meets its contract: by its definition. Assumes nothing.
+use mathlib.Core.Path.{refl}
+use borrow.Author.Needs.{needs}
+use Rattle.fips197.specs.Cipher.{rotWord}
+use Rattle.expansion.proofs.rotated.Statement.{statement}
+use Rattle.expansion.proofs.rotated.Tie as tie
+
+array-read-t5 : tie.Need-array-read-t5
+array-read-t5 c = search needs
+
+array-read-t8 : tie.Need-array-read-t8
+array-read-t8 c = search needs
+
+array-read-t11 : tie.Need-array-read-t11
+array-read-t11 c = search needs
+
+array-read-t14 : tie.Need-array-read-t14
+array-read-t14 c = search needs
+
+returns : tie.Need-returns
+unfolding rotWord
+returns c = refl
+
+pub rotated-spec : {M : Type 1} → statement M
+rotated-spec =
+    tie.close (tie.spec array-read-t5 array-read-t8 array-read-t11 array-read-t14 returns)

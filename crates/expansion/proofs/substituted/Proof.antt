@@ -1,0 +1,47 @@
+-- `expansion::substituted` meets its contract: from the four bytes substituted. Assumes nothing.
+use borrow.Author.Needs.{needs}
+use Rattle.fips197.specs.Cipher.{subWord}
+use Rattle.expansion.proofs.substituted.Statement.{statement}
+use Rattle.expansion.proofs.substituted.Tie as tie
+
+array-read-bare : tie.Need-array-read-bare
+array-read-bare c = search needs
+
+bare-requires : tie.Need-bare-requires
+bare-requires c κs = search needs
+
+array-read-bare-2 : tie.Need-array-read-bare-2
+array-read-bare-2 c = search needs
+
+bare-requires-2 : tie.Need-bare-requires-2
+bare-requires-2 c κs = search needs
+
+array-read-bare-3 : tie.Need-array-read-bare-3
+array-read-bare-3 c = search needs
+
+bare-requires-3 : tie.Need-bare-requires-3
+bare-requires-3 c κs = search needs
+
+array-read-bare-4 : tie.Need-array-read-bare-4
+array-read-bare-4 c = search needs
+
+bare-requires-4 : tie.Need-bare-requires-4
+bare-requires-4 c κs = search needs
+
+returns : tie.Need-returns
+unfolding subWord
+returns c = cc
+
+pub substituted-spec : {M : Type 1} → statement M
+substituted-spec =
+    tie.close
+    (tie.spec
+    array-read-bare
+    bare-requires
+    array-read-bare-2
+    bare-requires-2
+    array-read-bare-3
+    bare-requires-3
+    array-read-bare-4
+    bare-requires-4
+    returns)
