@@ -1,4 +1,4 @@
-# make test: what the gate runs.   make run: proves and runs the program that calls everything at its edges.
+# make test: what the gate runs.   make run: proves and runs the program that calls the field and the inversion at their edges.
 .PHONY: test run clean
 
 test:

@@ -1,16 +1,16 @@
 -- The words of an expansion: bytes where the key is, and as many as there are to be. Assumes nothing.
-use mathlib.Core.Path.{_≡_, refl, sym, ap, _∙_}
+use mathlib.Core.Path.{_≡_, refl, _∙_}
 use mathlib.Core.List.{List, [], _∷_, _++_}
 use mathlib.Core.Bool.{Bool, true, false}
 use Prim.Native.Nat.{ℕ, zero, suc, _+_, _-_, _*_, _/_, _%_, _<_, _≤_}
 use native.Mathlib.Omega.{arith}
 use lib.Dec.{eqb, ltb, lit<}
-use lib.ListN.{length, take, drop, getD, length-append, length-take, length-drop}
+use lib.ListN.{length, drop, length-append, length-take, length-drop}
 use Rattle.fips197.specs.Cipher.{_⊞_, word, rotWord, subWord, power, rcon, choose, temp, expanded, keyExpansion}
 use Rattle.fips197.specs.Claims.{Bytes}
 use Rattle.fips197.proofs.Field.{xtime-lt}
 use Rattle.fips197.proofs.State.{length-plus}
-use Rattle.fips197.proofs.Undo.{byte-at, bytes-plus, bytes-take, bytes-drop, sbox-lt}
+use Rattle.fips197.proofs.Undo.{bytes-plus, bytes-take, bytes-drop, sbox-lt}
 
 bytes-append : (a b : List ℕ) → Bytes a → Bytes b → Bytes (a ++ b)
 bytes-append [] b h g = g

@@ -93,3 +93,10 @@ module _ {X : Type 0} (deny : Refusal → X) (give : X) where
   one-failed [] x r e f = let z : _≡_ {A = ℕ} 0 1 = cc in absurd (omega arith)
   one-failed ((n, true) ∷ checks) x r e f = let g : refusal n ≡ r = cc in ap deny (sym g)
   one-failed ((n, false) ∷ checks) x r e f = one-failed checks x r e f
+
+-- where none is refused, no check of the list applies
+pub passed : (n : ℕ) (b : Bool) (checks : List (ℕ × Bool)) (x : Unit {0}) → first ((n, b) ∷ checks) refused (done x) ≡ done x
+    → (b ≡ false) × (first checks refused (done x) ≡ done x)
+unfolding first
+passed n true checks x e = let y : _≡_ {A = ℕ} 0 1 = cc in absurd (omega arith)
+passed n false checks x e = (refl, e)

@@ -1,15 +1,16 @@
 -- What a strip that passed the check is, for the proofs of calls that use its records. Assumes nothing.
-use Prim.Native.Nat.{ℕ, zero, suc, _+_, _-_, _*_, _≤_}
+use Prim.Native.Nat.{ℕ, zero, suc, _+_, _-_, _*_, _≤_, _<_}
 use mathlib.Core.Path.{_≡_, refl, sym, ap, _∙_}
-use mathlib.Core.List.{List, _∷_}
+use mathlib.Core.List.{List, [], _∷_}
 use mathlib.Core.Bool.{Bool, true, false, not}
 use native.Mathlib.Omega.{arith}
 use lib.ListN.{length, getD, take, drop}
 use lib.Dec.{eqb}
-use borrow.Author.Tests.{le-ltb, ltb-false, eqb-true, not-false}
+use borrow.Author.Tests.{lt-ltb, le-ltb, ltb-false, eqb-true, not-false}
 use Rattle.refusal.specs.Answer.{done, refused, first, above, either, both, isNot, outcome}
 use Rattle.refusal.specs.declared.Outcome.{Outcome}
 use Rattle.refusal.specs.declared.Outcome.the-variants.{Done}
+use Rattle.refusal.proofs.First.{passed}
 use Rattle.strip.specs.Strip.{version, keySize, recordBytes, sameForm, badFraming, spent, unknownVersion, wrongRecordBytes, badThird, badRecord, formOf, wholeRecord, recordPart}
 use Rattle.strip.proofs.Laws.{either-false, third-at}
 
@@ -20,13 +21,6 @@ pub record Fit (s : List ℕ) (size : ℕ) : Type 0 where
   pub bytes : recordBytes s ≡ 12 * size + 288
   pub there : (i : ℕ) → 4 + 3 * i + 3 ≤ length s → recordPart s i ≡ take 3 (drop (4 + 3 * i) s)
   pub small : (i : ℕ) → 4 + 3 * i + 3 ≤ length s → getD s (4 + 3 * i + 2) 0 ≤ 3
-
--- where none is refused, no check of the list applies
-passed : (n : ℕ) (b : Bool) (checks : List (ℕ × Bool)) (x : Unit {0}) → first ((n, b) ∷ checks) refused (done x) ≡ done x
-    → (b ≡ false) × (first checks refused (done x) ≡ done x)
-unfolding first
-passed n true checks x e = let y : _≡_ {A = ℕ} 0 1 = cc in absurd (omega arith)
-passed n false checks x e = (refl, e)
 
 both-true : (a b : Bool) → both a b ≡ true → (a ≡ true) × (b ≡ true)
 both-true true b e = (refl, e)
@@ -77,6 +71,17 @@ module _ (s : List ℕ) where
 
   thirds : badRecord s ≡ false → (i : ℕ) → 4 + 3 * i + 3 ≤ length s → getD s (4 + 3 * i + 2) 0 ≤ 3
   thirds e i h = ltb-false 3 (getD s (4 + 3 * i + 2) 0) (either-false (above 3 (getD s (4 + 3 * i + 2) 0)) _ (sym (third-at s i h) ∙ still e i (omega arith)))
+
+-- past the last record there is none, whatever the checks say
+either-way : (checks : List (ℕ × Bool)) (l : List ℕ) → first checks (λ _. l) l ≡ l
+unfolding first
+either-way [] l = refl
+either-way ((n, true) ∷ checks) l = refl
+either-way ((n, false) ∷ checks) l = either-way checks l
+
+pub past : (s : List ℕ) (i : ℕ) → length s < 4 + 3 * i + 3 → recordPart s i ≡ []
+unfolding wholeRecord
+past s i h = rw (lt-ltb (length s) (4 + 3 * i + 3) h) (either-way ((7, badFraming s) ∷ (8, unknownVersion s) ∷ (11, spent s) ∷ []) [])
 
 pub good : (s : List ℕ) (size : ℕ) (f : Outcome) → outcome f ≡ formOf s size → f ≡ Done → Fit s size
 good s size f e g =

@@ -1,0 +1,24 @@
+-- `cipher::unmix` meets its contract: from the promise of InvMixColumns, where the round is not the last. Assumes nothing.
+use borrow.Author.Needs.{needs}
+use Rattle.cipher.proofs.Steps.{mixed-last, mixed-more}
+use Rattle.cipher.proofs.unmix.Statement.{statement}
+use Rattle.cipher.proofs.unmix.Tie as tie
+
+last-requires : tie.Need-last-requires
+last-requires c κs = search needs
+
+returns : tie.Need-returns
+returns c = search mixed-last
+
+inverse-mix-columns-requires : tie.Need-inverse-mix-columns-requires
+inverse-mix-columns-requires c κs = search needs
+
+same-length : tie.Need-same-length
+same-length c = search needs
+
+returns-2 : tie.Need-returns-2
+returns-2 c = search mixed-more
+
+pub unmix-spec : {M : Type 1} → statement M
+unmix-spec =
+    tie.close (tie.spec last-requires returns inverse-mix-columns-requires same-length returns-2)

@@ -1,0 +1,225 @@
+// The masked block calls: every check first, then the rounds of FIPS 197 on data and mask, then the strip is wiped.
+ghost use mathlib.Core.Path.{_≡_};
+ghost use Prim.Native.Nat.{suc, _<_, _≤_, _+_, _*_};
+ghost use lib.ListN.{length};
+ghost use lib.Dec.{eqb};
+ghost use Rattle.refusal.specs.Refusal.{failed};
+ghost use Rattle.refusal.specs.Answer.{first, done, refused, either, isNot, outcome};
+ghost use Rattle.strip.specs.Strip.{recordPart};
+ghost use Rattle.fips197.specs.Cipher.{mixColumns, invMixColumns};
+ghost use Rattle.sbox.specs.declared.Direction.the-variants as way;
+ghost use Rattle.cipher.specs.Block.{roundsIn, checks, recordOf, blockOf};
+ghost use Rattle.cipher.specs.Inner.{Ready, substituted, keyed, mixed, roundWorked, worked, invRoundWorked, invWorked, workedIn};
+use inversion::Masked;
+use refusal::Check;
+use refusal::Outcome;
+use refusal::Refusal;
+use sbox::Direction;
+use tower::Record;
+
+// 6
+fn check_sixteen(block: usize, mask: usize) -> Check
+    ensures { λ c. ⌜ failed c ≡ either (isNot 16 block) (isNot 16 mask) ⌝ }
+{
+    let Check::Passed = refusal::check_length(block, 16) else {
+        return Check::Failed;
+    };
+    refusal::check_length(mask, 16)
+}
+
+// Every refusal of a block call, from the lengths of its parts and the strip, of which nothing can be changed here.
+fn check(block: usize, mask: usize, round_keys: usize, strip: &[u8]) -> Outcome
+    ensures { λ v. ⌜ outcome v ≡ first (checks block mask «round_keys» (now (strip .entry))) refused (done tt) ⌝ }
+{
+    let Check::Passed = check_sixteen(block, mask) else {
+        return Outcome::Refused(Refusal::Buffer(6));
+    };
+    let Check::Passed = refusal::check_lengths(round_keys, 176, 208, 240) else {
+        return Outcome::Refused(Refusal::Buffer(5));
+    };
+    let rounds = round_keys / 16 - 1;
+    strip::check(strip, (4 * (rounds - 6)) as u8)
+}
+
+// A record, read from the part of the strip where it stands.
+fn record_at(strip: &[u8], index: usize) -> Record
+    requires { ⌜ length (recordPart (now strip) index) ≡ 3 ⌝ }
+    ensures { λ ρ. ⌜ ρ ≡ recordOf (now (strip .entry)) index ⌝ }
+{
+    let part = strip::record(strip, index);
+    Record {
+        qt: part[0],
+        s: part[1],
+        r: part[2],
+    }
+}
+
+// Every byte of the state through its S-box, each with the record of its position in this round of the work.
+fn substitute_bytes(
+    direction: Direction,
+    block: &mut [u8],
+    mask: &mut [u8],
+    strip: &[u8],
+    round: usize,
+)
+    requires { ⌜ (length (now block) ≡ 16) × (length (now mask) ≡ 16) ⌝ }
+    requires { ⌜ (round < 14) × Ready (now strip) (16 * round + 16) ⌝ }
+    ensures { λ _. ⌜ (now (block .exit), now (mask .exit)) ≡ substituted direction (now (strip .entry)) round (now (block .entry), now (mask .entry)) ⌝ }
+{
+    let mut position = 0;
+    while position < 16 {
+        let record = record_at(strip, 16 * round + position);
+        let answer = sbox::substitute(direction, block[position], mask[position], record);
+        let Masked::Byte(data, outgoing) = answer else {
+            return; // never, since every record was checked
+        };
+        block[position] = data;
+        mask[position] = outgoing;
+        position += 1;
+    }
+}
+
+fn last(round: usize, rounds: usize) -> bool
+    requires { ⌜ round < 14 ⌝ }
+    ensures { λ r. ⌜ r ≡ eqb (suc round) rounds ⌝ }
+{
+    round + 1 == rounds
+}
+
+// Every round but the last mixes the columns of each part.
+fn mix(part: &mut [u8], round: usize, rounds: usize)
+    requires { ⌜ (length (now part) ≡ 16) × (round < 14) ⌝ }
+    ensures { λ _. ⌜ now (part .exit) ≡ mixed mixColumns round rounds (now (part .entry)) ⌝ }
+{
+    if last(round, rounds) {
+        return;
+    }
+    aes::mix_columns(part);
+}
+
+// A round of 5.1, on data and mask; the round key goes to the data alone. Rounds count from 0, as the records of the strip do.
+fn encrypt_round(
+    block: &mut [u8],
+    mask: &mut [u8],
+    round_keys: &[u8],
+    strip: &[u8],
+    round: usize,
+    rounds: usize,
+)
+    requires { ⌜ (length (now block) ≡ 16) × (length (now mask) ≡ 16) ⌝ }
+    requires { ⌜ (round < 14) × ((Ready (now strip) (16 * round + 16)) × (16 * (round + 1) + 16 ≤ length (now «round_keys»))) ⌝ }
+    ensures { λ _. ⌜ (now (block .exit), now (mask .exit)) ≡ roundWorked (now («round_keys» .entry)) (now (strip .entry)) rounds round (now (block .entry), now (mask .entry)) ⌝ }
+{
+    substitute_bytes(Direction::Encrypt, block, mask, strip, round);
+    aes::shift_rows(block);
+    aes::shift_rows(mask);
+    mix(block, round, rounds);
+    mix(mask, round, rounds);
+    aes::add_round_key(block, round_keys, round + 1);
+}
+
+// 5.1 Cipher on data and mask.
+fn encrypt_rounds(block: &mut [u8], mask: &mut [u8], round_keys: &[u8], strip: &[u8], rounds: usize)
+    requires { ⌜ (length (now block) ≡ 16) × (length (now mask) ≡ 16) ⌝ }
+    requires { ⌜ (rounds ≤ 14) × (Ready (now strip) (16 * rounds) × (16 * rounds + 16 ≤ length (now «round_keys»))) ⌝ }
+    ensures { λ _. ⌜ (now (block .exit), now (mask .exit)) ≡ worked (now («round_keys» .entry)) (now (strip .entry)) rounds rounds (keyed (now («round_keys» .entry)) 0 (now (block .entry), now (mask .entry))) ⌝ }
+{
+    aes::add_round_key(block, round_keys, 0);
+    let mut round = 0;
+    while round < rounds {
+        encrypt_round(block, mask, round_keys, strip, round, rounds);
+        round += 1;
+    }
+}
+
+// Every round but the last mixes the columns of each part back.
+fn unmix(part: &mut [u8], round: usize, rounds: usize)
+    requires { ⌜ (length (now part) ≡ 16) × (round < 14) ⌝ }
+    ensures { λ _. ⌜ now (part .exit) ≡ mixed invMixColumns round rounds (now (part .entry)) ⌝ }
+{
+    if last(round, rounds) {
+        return;
+    }
+    aes::inverse_mix_columns(part);
+}
+
+// A round of 5.3, on data and mask: the rows go back first, so that a record is that of the position after it. The round keys are counted down.
+fn decrypt_round(
+    block: &mut [u8],
+    mask: &mut [u8],
+    round_keys: &[u8],
+    strip: &[u8],
+    round: usize,
+    rounds: usize,
+)
+    requires { ⌜ (length (now block) ≡ 16) × (length (now mask) ≡ 16) ⌝ }
+    requires { ⌜ (rounds ≤ 14) × ((round < rounds) × (Ready (now strip) (16 * round + 16) × (16 * rounds + 16 ≤ length (now «round_keys»)))) ⌝ }
+    ensures { λ _. ⌜ (now (block .exit), now (mask .exit)) ≡ invRoundWorked (now («round_keys» .entry)) (now (strip .entry)) rounds round (now (block .entry), now (mask .entry)) ⌝ }
+{
+    aes::inverse_shift_rows(block);
+    aes::inverse_shift_rows(mask);
+    substitute_bytes(Direction::Decrypt, block, mask, strip, round);
+    aes::add_round_key(block, round_keys, rounds - (round + 1));
+    unmix(block, round, rounds);
+    unmix(mask, round, rounds);
+}
+
+// 5.3 InvCipher on data and mask.
+fn decrypt_rounds(block: &mut [u8], mask: &mut [u8], round_keys: &[u8], strip: &[u8], rounds: usize)
+    requires { ⌜ (length (now block) ≡ 16) × (length (now mask) ≡ 16) ⌝ }
+    requires { ⌜ (rounds ≤ 14) × (Ready (now strip) (16 * rounds) × (16 * rounds + 16 ≤ length (now «round_keys»))) ⌝ }
+    ensures { λ _. ⌜ (now (block .exit), now (mask .exit)) ≡ invWorked (now («round_keys» .entry)) (now (strip .entry)) rounds rounds (keyed (now («round_keys» .entry)) rounds (now (block .entry), now (mask .entry))) ⌝ }
+{
+    aes::add_round_key(block, round_keys, rounds);
+    let mut done = 0;
+    while done < rounds {
+        decrypt_round(block, mask, round_keys, strip, done, rounds);
+        done += 1;
+    }
+}
+
+// The rounds of a direction, as many as there are round keys for.
+fn work(direction: Direction, block: &mut [u8], mask: &mut [u8], round_keys: &[u8], strip: &[u8])
+    requires { ⌜ (length (now block) ≡ 16) × (length (now mask) ≡ 16) ⌝ }
+    requires { ⌜ (16 ≤ length (now «round_keys»)) × ((roundsIn (length (now «round_keys»)) ≤ 14) × Ready (now strip) (16 * roundsIn (length (now «round_keys»)))) ⌝ }
+    ensures { λ _. ⌜ (now (block .exit), now (mask .exit)) ≡ workedIn direction (now («round_keys» .entry)) (now (strip .entry)) (now (block .entry), now (mask .entry)) ⌝ }
+{
+    let rounds = round_keys.len() / 16 - 1;
+    match direction {
+        Direction::Encrypt => encrypt_rounds(block, mask, round_keys, strip, rounds),
+        Direction::Decrypt => decrypt_rounds(block, mask, round_keys, strip, rounds),
+    }
+}
+
+// Everything is checked before a byte changes, and the strip that served is wiped.
+fn serve(
+    direction: Direction,
+    block: &mut [u8],
+    mask: &mut [u8],
+    round_keys: &[u8],
+    strip: &mut [u8],
+) -> Outcome
+    ensures { λ v. ⌜ (outcome v, (now (block .exit), (now (mask .exit), now (strip .exit)))) ≡ blockOf direction (now (block .entry)) (now (mask .entry)) (now («round_keys» .entry)) (now (strip .entry)) ⌝ }
+{
+    let checked = check(block.len(), mask.len(), round_keys.len(), strip);
+    let Outcome::Done = checked else {
+        return checked;
+    };
+    work(direction, block, mask, round_keys, strip);
+    strip::wipe(strip);
+    Outcome::Done
+}
+
+// Encrypts a masked block: block and mask are rewritten where they stand.
+pub fn encrypt(block: &mut [u8], mask: &mut [u8], round_keys: &[u8], strip: &mut [u8]) -> Outcome
+    ensures { λ v. ⌜ (outcome v, (now (block .exit), (now (mask .exit), now (strip .exit)))) ≡ blockOf way.Encrypt (now (block .entry)) (now (mask .entry)) (now («round_keys» .entry)) (now (strip .entry)) ⌝ }
+{
+    serve(Direction::Encrypt, block, mask, round_keys, strip)
+}
+
+// Decrypts a masked block likewise.
+pub fn decrypt(block: &mut [u8], mask: &mut [u8], round_keys: &[u8], strip: &mut [u8]) -> Outcome
+    ensures { λ v. ⌜ (outcome v, (now (block .exit), (now (mask .exit), now (strip .exit)))) ≡ blockOf way.Decrypt (now (block .entry)) (now (mask .entry)) (now («round_keys» .entry)) (now (strip .entry)) ⌝ }
+{
+    serve(Direction::Decrypt, block, mask, round_keys, strip)
+}
