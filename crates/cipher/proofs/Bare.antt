@@ -11,7 +11,7 @@ use Rattle.tower.specs.Claims.{Good}
 use Rattle.sbox.specs.declared.Direction.{Direction}
 use Rattle.sbox.specs.declared.Direction.the-variants.{Encrypt, Decrypt}
 use Rattle.sbox.proofs.Claims.{box-is-right}
-use Rattle.cipher.specs.Block.{roundsIn, recordOf, newMasks, outgoing, bareBlock}
+use Rattle.cipher.specs.Block.{roundsIn, recordAt, newMasks, outgoing, bareBlock}
 use Rattle.cipher.specs.Inner.{Parts, each, substituted, keyed, mixed, roundWorked, worked, invRoundWorked, invWorked, workedIn}
 
 before : (k : ℕ) → k ≡ suc k - 1
@@ -42,18 +42,18 @@ module _ (f : List ℕ → List ℕ) (n nr : ℕ) (b : Parts) where
   unfolding mixed
   mixed-is e = rw (eq-eqb (suc n) nr e) refl
 
-module _ (w s : List ℕ) (good : (i : ℕ) → Good (recordOf s i)) where
+module _ (w s : List ℕ) (good : (i : ℕ) → Good (recordAt s i)) where
   sub-bare : (n : ℕ) (b : Parts) → bare (substituted Encrypt s n b) ≡ subBytes (bare b)
   unfolding substituted newMasks subBytes
   sub-bare n b =
       state-plus _ _
-      ∙ state-ext _ _ (λ r c. box-is-right Encrypt (cell (b .0) r c) (cell (b .1) r c) (recordOf s (16 * n + (r + 4 * c))) (good (16 * n + (r + 4 * c))) ∙ ap sbox (sym (cell-plus (b .0) (b .1) r c)))
+      ∙ state-ext _ _ (λ r c. box-is-right Encrypt (cell (b .0) r c) (cell (b .1) r c) (recordAt s (16 * n + (r + 4 * c))) (good (16 * n + (r + 4 * c))) ∙ ap sbox (sym (cell-plus (b .0) (b .1) r c)))
 
   inv-sub-bare : (n : ℕ) (b : Parts) → bare (substituted Decrypt s n b) ≡ invSubBytes (bare b)
   unfolding substituted newMasks invSubBytes
   inv-sub-bare n b =
       state-plus _ _
-      ∙ state-ext _ _ (λ r c. box-is-right Decrypt (cell (b .0) r c) (cell (b .1) r c) (recordOf s (16 * n + (r + 4 * c))) (good (16 * n + (r + 4 * c))) ∙ ap invSbox (sym (cell-plus (b .0) (b .1) r c)))
+      ∙ state-ext _ _ (λ r c. box-is-right Decrypt (cell (b .0) r c) (cell (b .1) r c) (recordAt s (16 * n + (r + 4 * c))) (good (16 * n + (r + 4 * c))) ∙ ap invSbox (sym (cell-plus (b .0) (b .1) r c)))
 
   -- what every round begins with
   begun-bare : (n : ℕ) (b : Parts) (t : List ℕ) → bare b ≡ t → bare (each shiftRows (substituted Encrypt s n b)) ≡ shiftRows (subBytes t)
@@ -116,7 +116,7 @@ remasked : (b : Parts) (t m : List ℕ) → length (b .0) ≡ 16 → length (b .
 remasked b t m h g e f =
     ap₂ (λ (x y : List ℕ). (x, y)) (sym (plus-off (b .0) (b .1) (omega arith)) ∙ ap₂ _⊞_ e f) f
 
-module _ (w s : List ℕ) (good : (i : ℕ) → Good (recordOf s i)) (d m D M : List ℕ) (h : length D ≡ 16) (g : length M ≡ 16) where
+module _ (w s : List ℕ) (good : (i : ℕ) → Good (recordAt s i)) (d m D M : List ℕ) (h : length D ≡ 16) (g : length M ≡ 16) where
   encrypted : (nr : ℕ) → 0 < nr → (D, M) ≡ worked w s nr nr (keyed w 0 (d, m)) → _≡_ {A = Parts} (D, M) (cipher nr w (d ⊞ m) ⊞ outgoing Encrypt s nr, outgoing Encrypt s nr)
   encrypted zero p e = absurd (omega arith)
   encrypted (suc k) p e = remasked (D, M) _ _ h g (ap bare e ∙ last-bare w s good k (d, m)) (ap (λ (b : Parts). b .1) e ∙ last-mask w s good k _)

@@ -22,7 +22,7 @@ module _ (d m w s : List ℕ) (v : Outcome) (e : outcome v ≡ first (checks (le
   unfolding blockOf
   block-refused dir r f =
       ap (λ (x : Answer (Unit {0})). (x, (d, (m, s)))) (ap outcome f)
-      ∙ one-failed (λ r. (refused r, (d, (m, s)))) _ (checks (length d) (length m) (length w) s) (outcome v) r e (ap outcome f)
+      ∙ one-failed (λ r. (refused r, (d, (m, s)))) _ tt (checks (length d) (length m) (length w) s) (outcome v) r e (ap outcome f)
 
   -- where every check has passed: what the work asks for, and what it gives
   module _ (f : v ≡ Done) where
@@ -41,4 +41,4 @@ module _ (d m w s : List ℕ) (v : Outcome) (e : outcome v ≡ first (checks (le
       block-done dir p =
           let is = all-rounds w s (all-good s _ (a .strip) bytes) d m D M (h ∙ a .block) (g ∙ a .mask) dir (omega (arith, a .keys .least)) p in
           ap₂ (λ (p : List ℕ × List ℕ) (x : List ℕ). (done tt, (p .0, (p .1, x)))) is gone
-          ∙ all-passed (λ r. (refused r, (d, (m, s)))) _ (checks (length d) (length m) (length w) s) (outcome v) e (ap outcome f)
+          ∙ all-passed (λ r. (refused r, (d, (m, s)))) _ tt (checks (length d) (length m) (length w) s) (outcome v) tt e (ap outcome f) .0

@@ -10,7 +10,7 @@ use Rattle.fips197.proofs.Below.{below-or-not}
 use Rattle.tower.specs.Claims.{Good}
 use Rattle.strip.specs.Strip.{recordPart}
 use Rattle.strip.proofs.Good.{Fit, past}
-use Rattle.cipher.specs.Block.{recordOf}
+use Rattle.cipher.specs.Block.{recordAt}
 use Rattle.cipher.specs.Inner.{Ready}
 
 -- a part of three bytes, as the reader hands it out
@@ -18,12 +18,12 @@ module _ (s l : List ℕ) (i : ℕ) (e : l ≡ recordPart s i) where
   pub part-holds : length (recordPart s i) ≡ 3 → (j : ℕ) → j < 3 → j < length l
   part-holds h j g = rw e (omega arith)
 
-  pub part-read : record { qt = getD l 0 0; s = getD l 1 0; r = getD l 2 0 } ≡ recordOf s i
-  unfolding recordOf
+  pub part-read : record { qt = getD l 0 0; s = getD l 1 0; r = getD l 2 0 } ≡ recordAt s i
+  unfolding recordAt
   part-read = rw e refl
 
-pub third : (s : List ℕ) (i : ℕ) → getD (recordPart s i) 2 0 ≤ 3 → recordOf s i .r ≤ 3
-unfolding recordOf
+pub third : (s : List ℕ) (i : ℕ) → getD (recordPart s i) 2 0 ≤ 3 → recordAt s i .r ≤ 3
+unfolding recordAt
 third s i h = h
 
 -- a strip that passed the check
@@ -44,17 +44,17 @@ module _ (s : List ℕ) (size : ℕ) (fit : Fit s size) where
 
   -- every record is good: a byte each, and the third at most 3; and so is none, past the last
   module _ (bytes : (j : ℕ) → getD s j 0 < 256) where
-    there-good : (i : ℕ) → 4 + 3 * i + 3 ≤ length s → Good (recordOf s i)
-    unfolding recordOf
+    there-good : (i : ℕ) → 4 + 3 * i + 3 ≤ length s → Good (recordAt s i)
+    unfolding recordAt
     there-good i g = record {
       qt = rw (byte-of i 0 g (omega arith)) (bytes (4 + 3 * i + 0));
       s = rw (byte-of i 1 g (omega arith)) (bytes (4 + 3 * i + 1));
       r = rw (byte-of i 2 g (omega arith)) (fit .small i g);
     }
 
-    past-good : (i : ℕ) → length s < 4 + 3 * i + 3 → Good (recordOf s i)
-    unfolding recordOf
+    past-good : (i : ℕ) → length s < 4 + 3 * i + 3 → Good (recordAt s i)
+    unfolding recordAt
     past-good i g = record { qt = rw (past s i g) (omega arith); s = rw (past s i g) (omega arith); r = rw (past s i g) (omega arith) }
 
-    pub all-good : (i : ℕ) → Good (recordOf s i)
+    pub all-good : (i : ℕ) → Good (recordAt s i)
     all-good i = ⊎-elim (λ g. past-good i g) (λ g. there-good i g) (below-or-not (length s) (4 + 3 * i + 3))

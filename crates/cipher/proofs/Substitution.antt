@@ -19,7 +19,7 @@ use Rattle.inversion.specs.Answers.{byteAndMask}
 use Rattle.sbox.specs.declared.Direction.{Direction}
 use Rattle.sbox.specs.Sbox.{newByte, newMask}
 use Rattle.sbox.specs.Sbox as sbox
-use Rattle.cipher.specs.Block.{recordOf, newMasks}
+use Rattle.cipher.specs.Block.{recordAt, newMasks}
 use Rattle.cipher.specs.Inner.{Ready, substituted}
 use Rattle.cipher.proofs.Records.{third}
 
@@ -67,11 +67,11 @@ module _ (dir : Direction) (s : List ℕ) (n : ℕ) (d m : List ℕ) where
   unfolding newMasks
   mask-long = length-state _
 
-  data-at : (i : ℕ) → i < 16 → getD newData i 0 ≡ newByte dir (getD d i 0) (getD m i 0) (recordOf s (16 * n + i))
+  data-at : (i : ℕ) → i < 16 → getD newData i 0 ≡ newByte dir (getD d i 0) (getD m i 0) (recordAt s (16 * n + i))
   unfolding substituted
   data-at i h = get-state _ i h ∙ rw (cell-at d i, cell-at m i, place i) refl
 
-  mask-at : (i : ℕ) → i < 16 → getD (newMasks dir s n) i 0 ≡ newMask dir (recordOf s (16 * n + i))
+  mask-at : (i : ℕ) → i < 16 → getD (newMasks dir s n) i 0 ≡ newMask dir (recordAt s (16 * n + i))
   unfolding newMasks
   mask-at i h = get-state _ i h ∙ rw (place i) refl
 
@@ -87,7 +87,7 @@ module _ (dir : Direction) (s : List ℕ) (n : ℕ) (d m : List ℕ) where
   went-none h g = record { bound = omega arith; longD = h; longM = g; isD = front-none _ _; isM = front-none _ _ }
 
   module _ (D M : List ℕ) (i : ℕ) (hd : length d ≡ 16) (hm : length m ≡ 16) (went : Went D M i) where
-    pub went-more : (ρ : Record) (v : Masked) (x y : ℕ) → i < 16 → ρ ≡ recordOf s (16 * n + i) → byteAndMask v ≡ sbox.substituted dir (getD D i 0) (getD M i 0) ρ → v ≡ Byte x y
+    pub went-more : (ρ : Record) (v : Masked) (x y : ℕ) → i < 16 → ρ ≡ recordAt s (16 * n + i) → byteAndMask v ≡ sbox.substituted dir (getD D i 0) (getD M i 0) ρ → v ≡ Byte x y
         → Went (set D i x) (set M i y) (i + 1)
     went-more ρ v x y h r e f =
         let here-d : getD D i 0 ≡ getD d i 0 = front-here newData d D i (went .isD) (data-long ∙ sym hd) (omega arith) in
@@ -106,11 +106,11 @@ module _ (dir : Direction) (s : List ℕ) (n : ℕ) (d m : List ℕ) where
         }
 
     -- every record was checked, so no byte is refused
-    pub went-never : (ρ : Record) (v : Masked) (r : Refusal) → i < 16 → Ready s (16 * n + 16) → ρ ≡ recordOf s (16 * n + i)
+    pub went-never : (ρ : Record) (v : Masked) (r : Refusal) → i < 16 → Ready s (16 * n + 16) → ρ ≡ recordAt s (16 * n + i)
         → byteAndMask v ≡ sbox.substituted dir (getD D i 0) (getD M i 0) ρ → v ≡ Refused r → ⊥
     went-never ρ v r h ready is e f = refused-not dir _ _ ρ v e r f (small ρ is)
       where
-        small : (ρ : Record) → ρ ≡ recordOf s (16 * n + i) → ρ .r ≤ 3
+        small : (ρ : Record) → ρ ≡ recordAt s (16 * n + i) → ρ .r ≤ 3
         small ρ is = rw is (third s (16 * n + i) (ready .small (16 * n + i) (omega arith)))
 
     mask-is : newMasks dir s n ≡ substituted dir s n (d, m) .1

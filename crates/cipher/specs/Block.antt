@@ -2,14 +2,14 @@
 use Prim.Native.Nat.{ℕ, _+_, _-_, _*_, _/_}
 use mathlib.Core.List.{List, [], _∷_}
 use mathlib.Core.Bool.{Bool}
-use lib.ListN.{length, getD}
+use lib.ListN.{length}
 use Rattle.fips197.specs.Cipher.{_⊞_, state, shiftRows, cipher, invCipher}
 use Rattle.refusal.specs.Answer.{Answer, done, refused, first, either, isNot, noneOf}
 use Rattle.tower.specs.declared.Record.{Record}
 use Rattle.strip.specs.Strip.{checkList, recordPart, wiped}
 use Rattle.sbox.specs.declared.Direction.{Direction}
 use Rattle.sbox.specs.declared.Direction.the-variants.{Encrypt, Decrypt}
-use Rattle.sbox.specs.Sbox.{newMask}
+use Rattle.sbox.specs.Sbox.{newMask, recordOf}
 
 -- what the number of bytes of the round keys tells: 10, 12 or 14 rounds, and a key size of 16, 24 or 32
 abbrev pub roundsIn : ℕ → ℕ
@@ -24,14 +24,13 @@ abbrev pub checks : ℕ → ℕ → ℕ → List ℕ → List (ℕ × Bool)
 checks d m w s =
     (6, either (isNot 16 d) (isNot 16 m)) ∷ (5, noneOf (176 ∷ 208 ∷ 240 ∷ []) w) ∷ checkList s (keySizeIn w)
 
--- a record of a strip, its three bytes as the S-box takes them
-unfoldable pub recordOf : List ℕ → ℕ → Record
-recordOf s index =
-    record { qt = getD (recordPart s index) 0 0; s = getD (recordPart s index) 1 0; r = getD (recordPart s index) 2 0 }
+-- a record of a strip, where the reader hands it out
+unfoldable pub recordAt : List ℕ → ℕ → Record
+recordAt s index = recordOf (recordPart s index)
 
 -- what the S-boxes of a round worked, from 0, leave as masks: sixteen records a round, by position in the state
 unfoldable pub newMasks : Direction → List ℕ → ℕ → List ℕ
-newMasks dir s n = state (λ r c. newMask dir (recordOf s (16 * n + (r + 4 * c))))
+newMasks dir s n = state (λ r c. newMask dir (recordAt s (16 * n + (r + 4 * c))))
 
 -- the outgoing mask is that of the last round worked; encrypting, the rows are still shifted, on data and mask alike
 unfoldable pub outgoing : Direction → List ℕ → ℕ → List ℕ

@@ -10,7 +10,7 @@ use Rattle.strip.specs.Strip.{recordPart}
 use Rattle.sbox.specs.declared.Direction.{Direction}
 use Rattle.sbox.specs.declared.Direction.the-variants.{Encrypt, Decrypt}
 use Rattle.sbox.specs.Sbox.{newByte}
-use Rattle.cipher.specs.Block.{roundsIn, recordOf, newMasks}
+use Rattle.cipher.specs.Block.{roundsIn, recordAt, newMasks}
 
 -- data and mask
 abbrev pub Parts : Type 0
@@ -31,7 +31,7 @@ pub record Ready (s : List ℕ) (n : ℕ) : Type 0 where
 -- every byte through its S-box, in round n of the work, from 0
 unfoldable pub substituted : Direction → List ℕ → ℕ → Parts → Parts
 substituted dir s n b =
-    (state (λ r c. newByte dir (cell (b .0) r c) (cell (b .1) r c) (recordOf s (16 * n + (r + 4 * c)))), newMasks dir s n)
+    (state (λ r c. newByte dir (cell (b .0) r c) (cell (b .1) r c) (recordAt s (16 * n + (r + 4 * c)))), newMasks dir s n)
 
 -- the round key is added to the data only
 unfoldable pub keyed : List ℕ → ℕ → Parts → Parts

@@ -8,7 +8,7 @@ ghost use Rattle.refusal.specs.Answer.{first, done, refused, either, isNot, out
 ghost use Rattle.strip.specs.Strip.{recordPart};
 ghost use Rattle.fips197.specs.Cipher.{mixColumns, invMixColumns};
 ghost use Rattle.sbox.specs.declared.Direction.the-variants as way;
-ghost use Rattle.cipher.specs.Block.{roundsIn, checks, recordOf, blockOf};
+ghost use Rattle.cipher.specs.Block.{roundsIn, checks, recordAt, blockOf};
 ghost use Rattle.cipher.specs.Inner.{Ready, substituted, keyed, mixed, roundWorked, worked, invRoundWorked, invWorked, workedIn};
 use inversion::Masked;
 use refusal::Check;
@@ -44,7 +44,7 @@ fn check(block: usize, mask: usize, round_keys: usize, strip: &[u8]) -> Outcome
 // A record, read from the part of the strip where it stands.
 fn record_at(strip: &[u8], index: usize) -> Record
     requires { ⌜ length (recordPart (now strip) index) ≡ 3 ⌝ }
-    ensures { λ ρ. ⌜ ρ ≡ recordOf (now (strip .entry)) index ⌝ }
+    ensures { λ ρ. ⌜ ρ ≡ recordAt (now (strip .entry)) index ⌝ }
 {
     let part = strip::record(strip, index);
     Record {
@@ -191,8 +191,8 @@ fn work(direction: Direction, block: &mut [u8], mask: &mut [u8], round_keys: &[u
     }
 }
 
-// Everything is checked before a byte changes, and the strip that served is wiped.
-fn serve(
+// A block in either direction: everything is checked before a byte changes, and the strip that served is wiped.
+pub fn serve(
     direction: Direction,
     block: &mut [u8],
     mask: &mut [u8],

@@ -63,7 +63,7 @@ module _ (dir : Direction) (key d m s : List ℕ) (e : wrongKey key ≡ false) (
   leaves : blockOf dir d m (words key) s ≡ (done tt, (bareBlock dir (words key) (d ⊞ m) ⊞ out, (out, wiped s)))
   unfolding blockOf
   leaves =
-      sym (all-passed (λ r. (refused r, (d, (m, s)))) _ (checks (length d) (length m) (length (words key)) s) (done tt) passes refl)
+      sym (all-passed (λ r. (refused r, (d, (m, s)))) _ tt (checks (length d) (length m) (length (words key)) s) (done tt) tt passes refl .0)
       ∙ rw (sized key e .rounds) refl
 
 bare-is : (dir : Direction) (key b : List ℕ) → wrongKey key ≡ false → bareBlock dir (words key) b ≡ claims.aes dir key b

@@ -81,14 +81,14 @@ module _ {X A : Type 0} (deny : Refusal → X) (tell : X → Answer A) (tells : 
   answer-passed ((n, false) ∷ checks) give give′ x v t e = answer-passed checks give give′ x v t e
 
 -- what the checks alone answered, for a call that also lends parts
-module _ {X : Type 0} (deny : Refusal → X) (give : X) where
-  pub all-passed : (checks : List (ℕ × Bool)) (x : Answer (Unit {0})) → x ≡ first checks refused (done tt) → x ≡ done tt → give ≡ first checks deny give
+module _ {X A : Type 0} (deny : Refusal → X) (give : X) (y : A) where
+  pub all-passed : (checks : List (ℕ × Bool)) (x : Answer A) (z : A) → x ≡ first checks refused (done y) → x ≡ done z → (give ≡ first checks deny give) × (z ≡ y)
   unfolding first
-  all-passed [] x e f = refl
-  all-passed ((n, true) ∷ checks) x e f = let z : _≡_ {A = ℕ} 0 1 = cc in absurd (omega arith)
-  all-passed ((n, false) ∷ checks) x e f = all-passed checks x e f
+  all-passed [] x z e f = (refl, cc)
+  all-passed ((n, true) ∷ checks) x z e f = let t : _≡_ {A = ℕ} 0 1 = cc in absurd (omega arith)
+  all-passed ((n, false) ∷ checks) x z e f = all-passed checks x z e f
 
-  pub one-failed : (checks : List (ℕ × Bool)) (x : Answer (Unit {0})) (r : Refusal) → x ≡ first checks refused (done tt) → x ≡ refused r → deny r ≡ first checks deny give
+  pub one-failed : (checks : List (ℕ × Bool)) (x : Answer A) (r : Refusal) → x ≡ first checks refused (done y) → x ≡ refused r → deny r ≡ first checks deny give
   unfolding first
   one-failed [] x r e f = let z : _≡_ {A = ℕ} 0 1 = cc in absurd (omega arith)
   one-failed ((n, true) ∷ checks) x r e f = let g : refusal n ≡ r = cc in ap deny (sym g)
@@ -100,3 +100,10 @@ pub passed : (n : ℕ) (b : Bool) (checks : List (ℕ × Bool)) (x : Unit {0}) �
 unfolding first
 passed n true checks x e = let y : _≡_ {A = ℕ} 0 1 = cc in absurd (omega arith)
 passed n false checks x e = (refl, e)
+
+-- a part of what is given, or of what a refusal gives
+pub first-part : {X Y : Type 0} (part : X → Y) (checks : List (ℕ × Bool)) (deny : Refusal → X) (give : X) → part (first checks deny give) ≡ first checks (λ r. part (deny r)) (part give)
+unfolding first
+first-part part [] deny give = refl
+first-part part ((n, true) ∷ checks) deny give = refl
+first-part part ((n, false) ∷ checks) deny give = first-part part checks deny give

@@ -1,7 +1,7 @@
 -- Document 01, "From inversion to block": the masked S-box and its inverse.
 use Prim.Native.Nat.{ℕ}
 use mathlib.Core.List.{List, [], _∷_}
-use lib.ListN.{length}
+use lib.ListN.{length, getD}
 use Rattle.fips197.specs.Field.{_⊕_}
 use Rattle.fips197.specs.Cipher.{linear, invLinear}
 use Rattle.refusal.specs.Answer.{Answer, done, refused, first, above, isNot}
@@ -38,6 +38,10 @@ newMask dir ρ = leave dir 0x00 (ρ .s)
 unfoldable pub ways : Unit {0}
 unfolding enter leave enterData enterMask newByte newMask
 ways = tt
+
+-- a record's three bytes, as the S-box takes them
+abbrev pub recordOf : List ℕ → Record
+recordOf l = record { qt = getD l 0 0; s = getD l 1 0; r = getD l 2 0 }
 
 -- what a call answers: the two bytes, or refusal 2
 abbrev pub substituted : Direction → ℕ → ℕ → Record → Answer (ℕ × ℕ)

@@ -1,0 +1,167 @@
+// What a host in C sees: the S-box, expansion and the block on numbers and byte slices. Each answers with the refusal's number, 0 for done.
+ghost use mathlib.Core.Path.{_≡_};
+ghost use Prim.Native.Nat.{_<_};
+ghost use Rattle.refusal.specs.Refusal.{number, failed};
+ghost use Rattle.refusal.specs.Answer.{answerNumber, outcome};
+ghost use Rattle.inversion.specs.Answers.{byteAndMask};
+ghost use Rattle.salcivorn.specs.Entries.{noDirection, way, notLent, sboxOf, sboxPointsOf, expandOf, directedBlockOf};
+use inversion::Masked;
+use refusal::Check;
+use refusal::Outcome;
+use refusal::Refusal;
+use sbox::Direction;
+use tower::Record;
+
+fn wide(x: u8) -> u32
+    ensures { λ r. ⌜ r ≡ x ⌝ }
+{
+    x as u32
+}
+
+// The kind is for callers inside the language; a host gets the number.
+fn refusal_number(refusal: Refusal) -> u32
+    ensures { λ n. ⌜ n ≡ number refusal ⌝ }
+{
+    match refusal {
+        Refusal::Operand(n) => wide(n),
+        Refusal::Key(n) => wide(n),
+        Refusal::Buffer(n) => wide(n),
+        Refusal::Strip(n) => wide(n),
+        Refusal::Direction(n) => wide(n),
+    }
+}
+
+fn outcome_number(answer: Outcome) -> u32
+    ensures { λ n. ⌜ n ≡ answerNumber (outcome answer) ⌝ }
+{
+    match answer {
+        Outcome::Done => 0,
+        Outcome::Refused(refusal) => refusal_number(refusal),
+    }
+}
+
+fn masked_number(answer: Masked) -> u32
+    ensures { λ n. ⌜ n ≡ answerNumber (byteAndMask answer) ⌝ }
+{
+    match answer {
+        Masked::Byte(_, _) => 0,
+        Masked::Refused(refusal) => refusal_number(refusal),
+    }
+}
+
+// 13
+fn check_direction(direction: u32) -> Check
+    ensures { λ c. ⌜ failed c ≡ noDirection direction ⌝ }
+{
+    if direction < 2 {
+        Check::Passed
+    } else {
+        Check::Failed
+    }
+}
+
+fn direction_of(direction: u32) -> Direction
+    ensures { λ d. ⌜ d ≡ way direction ⌝ }
+{
+    if direction == 0 {
+        Direction::Encrypt
+    } else {
+        Direction::Decrypt
+    }
+}
+
+// 6
+fn check_lent(data: usize, mask: usize, record: usize) -> Check
+    ensures { λ c. ⌜ failed c ≡ notLent «data» mask «record» ⌝ }
+{
+    let Check::Passed = refusal::check_length(data, 1) else {
+        return Check::Failed;
+    };
+    let Check::Passed = refusal::check_length(mask, 1) else {
+        return Check::Failed;
+    };
+    refusal::check_length(record, 3)
+}
+
+#[no_mangle]
+pub extern "C" fn salcivorn_sbox(
+    direction: u32,
+    data: &mut [u8],
+    mask: &mut [u8],
+    record: &[u8],
+) -> u32
+    ensures { λ n. ⌜ (n, (now («data» .exit), now (mask .exit))) ≡ sboxOf direction (now («data» .entry)) (now (mask .entry)) (now («record» .entry)) ⌝ }
+{
+    let Check::Passed = check_direction(direction) else {
+        return 13;
+    };
+    let Check::Passed = check_lent(data.len(), mask.len(), record.len()) else {
+        return 6;
+    };
+    let parts = Record {
+        qt: record[0],
+        s: record[1],
+        r: record[2],
+    };
+    let answer = sbox::substitute(direction_of(direction), data[0], mask[0], parts);
+    let Masked::Byte(value, outgoing) = answer else {
+        return masked_number(answer);
+    };
+    data[0] = value;
+    mask[0] = outgoing;
+    0
+}
+
+#[no_mangle]
+pub extern "C" fn salcivorn_sbox_points(
+    direction: u32,
+    data: &mut [u8],
+    mask: &mut [u8],
+    record: &[u8],
+    points: &mut [u8],
+) -> u32
+    ensures { λ n. ⌜ (n, (now («data» .exit), (now (mask .exit), now (points .exit)))) ≡ sboxPointsOf direction (now («data» .entry)) (now (mask .entry)) (now («record» .entry)) (now (points .entry)) ⌝ }
+{
+    let Check::Passed = check_direction(direction) else {
+        return 13;
+    };
+    let Check::Passed = check_lent(data.len(), mask.len(), record.len()) else {
+        return 6;
+    };
+    let parts = Record {
+        qt: record[0],
+        s: record[1],
+        r: record[2],
+    };
+    let answer = sbox::substitute_points(direction_of(direction), data[0], mask[0], parts, points);
+    let Masked::Byte(value, outgoing) = answer else {
+        return masked_number(answer);
+    };
+    data[0] = value;
+    mask[0] = outgoing;
+    0
+}
+
+#[no_mangle]
+pub extern "C" fn salcivorn_expand(key: &[u8], round_keys: &mut [u8]) -> u32
+    ensures { λ n. ⌜ (n, now («round_keys» .exit)) ≡ expandOf (now (key .entry)) (now («round_keys» .entry)) ⌝ }
+{
+    outcome_number(expansion::expand(key, round_keys))
+}
+
+#[no_mangle]
+pub extern "C" fn salcivorn_block(
+    direction: u32,
+    block: &mut [u8],
+    mask: &mut [u8],
+    round_keys: &[u8],
+    strip: &mut [u8],
+) -> u32
+    ensures { λ n. ⌜ (n, (now (block .exit), (now (mask .exit), now (strip .exit)))) ≡ directedBlockOf direction (now (block .entry)) (now (mask .entry)) (now («round_keys» .entry)) (now (strip .entry)) ⌝ }
+{
+    let Check::Passed = check_direction(direction) else {
+        return 13;
+    };
+    let answer = cipher::serve(direction_of(direction), block, mask, round_keys, strip);
+    outcome_number(answer)
+}
