@@ -1,12 +1,14 @@
--- The bytes that the code makes, against xtime and the products: by computed tests over all bytes, and additivity. Assumes nothing.
+-- The bytes that the code makes, against xtime and the products: by computed tests, and additivity. Assumes nothing.
 use mathlib.Core.Path.{_≡_, refl, ap, _∙_}
+use mathlib.Core.Bool.{Bool, true, false}
 use Prim.Native.Nat.{ℕ, _*_, _/_, _%_, _<_}
 use lib.Bits.{bitXor}
 use Rattle.fips197.specs.Field.{field, _⊕_, xtime, _•_}
 use Rattle.fips197.proofs.Below.{eq1}
 use Rattle.fips197.proofs.Xor.{sums, lt}
-use Rattle.fips197.proofs.Field.{product-right, product-lt}
-use Rattle.aes.specs.Inner.{mixByte, invMixByte}
+use Rattle.fips197.proofs.Additive.{Additive, agree-on-bytes}
+use Rattle.fips197.proofs.Field.{xtime-additive, product-right, product-lt}
+use Rattle.aes.specs.Inner.{mixByte, invMixByte, byteBy}
 
 -- doubling without a branch
 pub doubled : (b : ℕ) → b < 256 → bitXor (b * 2 % 256) (b / 128 * 0x1b) ≡ xtime b
@@ -15,15 +17,18 @@ doubled = eq1 256 (λ b. bitXor (b * 2 % 256) (b / 128 * 0x1b)) xtime tt
 
 one : (x : ℕ) → x < 256 → 1 • x ≡ x
 unfolding field
-one = eq1 256 (λ x. 1 • x) (λ x. x) tt
+one = agree-on-bytes (λ x. 1 • x) (λ x. x) (product-right 1) (λ x y. refl) tt
 
 two : (x : ℕ) → x < 256 → xtime x ≡ 2 • x
 unfolding field
-two = eq1 256 xtime (λ x. 2 • x) tt
+two = agree-on-bytes xtime (λ x. 2 • x) xtime-additive (product-right 2) tt
+
+three-additive : Additive (λ x. 2 • x ⊕ x)
+three-additive x y = simp (product-right, sums)
 
 three : (x : ℕ) → x < 256 → 3 • x ≡ 2 • x ⊕ x
 unfolding field
-three = eq1 256 (λ x. 3 • x) (λ x. 2 • x ⊕ x) tt
+three = agree-on-bytes (λ x. 3 • x) (λ x. 2 • x ⊕ x) (product-right 3) three-additive tt
 
 pub mixed-byte : (a b c d : ℕ) {x y : ℕ} → x ≡ xtime a → y ≡ xtime b → a < 256 → b < 256 → c < 256 → d < 256
     → bitXor (bitXor (bitXor x (bitXor y b)) c) d ≡ mixByte a b c d
@@ -31,21 +36,33 @@ unfolding mixByte _⊕_
 mixed-byte a b c d p q ha hb hc hd = rw (p, q, two a ha, two b hb, three b hb, one c hc, one d hd) refl
 
 -- the four constants of the inverse as sums of 8, 4, 2 and 1, the first three by doubling again and again
+fourteen-additive : Additive (λ x. 2 • (2 • (2 • x)) ⊕ 2 • (2 • x) ⊕ 2 • x)
+fourteen-additive x y = simp (product-right, sums)
+
 fourteen : (x : ℕ) → x < 256 → 0x0e • x ≡ 2 • (2 • (2 • x)) ⊕ 2 • (2 • x) ⊕ 2 • x
 unfolding field
-fourteen = eq1 256 (λ x. 0x0e • x) (λ x. 2 • (2 • (2 • x)) ⊕ 2 • (2 • x) ⊕ 2 • x) tt
+fourteen = agree-on-bytes (λ x. 0x0e • x) (λ x. 2 • (2 • (2 • x)) ⊕ 2 • (2 • x) ⊕ 2 • x) (product-right 0x0e) fourteen-additive tt
+
+eleven-additive : Additive (λ x. 2 • (2 • (2 • x)) ⊕ 2 • x ⊕ x)
+eleven-additive x y = simp (product-right, sums)
 
 eleven : (x : ℕ) → x < 256 → 0x0b • x ≡ 2 • (2 • (2 • x)) ⊕ 2 • x ⊕ x
 unfolding field
-eleven = eq1 256 (λ x. 0x0b • x) (λ x. 2 • (2 • (2 • x)) ⊕ 2 • x ⊕ x) tt
+eleven = agree-on-bytes (λ x. 0x0b • x) (λ x. 2 • (2 • (2 • x)) ⊕ 2 • x ⊕ x) (product-right 0x0b) eleven-additive tt
+
+thirteen-additive : Additive (λ x. 2 • (2 • (2 • x)) ⊕ 2 • (2 • x) ⊕ x)
+thirteen-additive x y = simp (product-right, sums)
 
 thirteen : (x : ℕ) → x < 256 → 0x0d • x ≡ 2 • (2 • (2 • x)) ⊕ 2 • (2 • x) ⊕ x
 unfolding field
-thirteen = eq1 256 (λ x. 0x0d • x) (λ x. 2 • (2 • (2 • x)) ⊕ 2 • (2 • x) ⊕ x) tt
+thirteen = agree-on-bytes (λ x. 0x0d • x) (λ x. 2 • (2 • (2 • x)) ⊕ 2 • (2 • x) ⊕ x) (product-right 0x0d) thirteen-additive tt
+
+nine-additive : Additive (λ x. 2 • (2 • (2 • x)) ⊕ x)
+nine-additive x y = simp (product-right, sums)
 
 nine : (x : ℕ) → x < 256 → 0x09 • x ≡ 2 • (2 • (2 • x)) ⊕ x
 unfolding field
-nine = eq1 256 (λ x. 0x09 • x) (λ x. 2 • (2 • (2 • x)) ⊕ x) tt
+nine = agree-on-bytes (λ x. 0x09 • x) (λ x. 2 • (2 • (2 • x)) ⊕ x) (product-right 0x09) nine-additive tt
 
 -- doubling as the product by two, which is additive
 lt3 : (a b c : ℕ) → a < 256 → b < 256 → c < 256 → a ⊕ b ⊕ c < 256
@@ -69,3 +86,13 @@ module _ (a b c d : ℕ) (ha : a < 256) (hb : b < 256) (hc : c < 256) (hd : d < 
       → bitXor (bitXor (bitXor z b) c) d ≡ invMixByte a b c d
   unfolding _⊕_
   inverse-mixed-byte p q r = inverse-sum p q r
+
+-- which of the two bytes a column takes
+module _ (inverse : Bool) (a b c d x : ℕ) where
+  pub byte-back : inverse ≡ true → x ≡ invMixByte a b c d → x ≡ byteBy inverse a b c d
+  unfolding byteBy
+  byte-back h e = rw h e
+
+  pub byte-forth : inverse ≡ false → x ≡ mixByte a b c d → x ≡ byteBy inverse a b c d
+  unfolding byteBy
+  byte-forth h e = rw h e

@@ -1,11 +1,12 @@
 -- A column rewritten by four stores, and a state by its four columns one after the other. Assumes nothing.
 use mathlib.Core.Path.{_≡_, refl, sym, subst, _∙_}
+use mathlib.Core.Bool.{true, false}
 use mathlib.Core.List.{List, [], _∷_, _++_}
 use Prim.Native.Nat.{ℕ}
 use lib.ListN.{length, getD, take, drop, set}
 use Rattle.fips197.specs.Cipher.{cell, state, columnsBy, mixColumns, invMixColumns}
 use Rattle.fips197.proofs.Lists.{eta}
-use Rattle.aes.specs.Inner.{mixByte, invMixByte, columnOf}
+use Rattle.aes.specs.Inner.{mixByte, invMixByte, byteBy, columnOf, columnsOf}
 
 stored : (l : List ℕ) (x y z w : ℕ) → length l ≡ 4 → set (set (set (set l 0 x) 1 y) 2 z) 3 w ≡ x ∷ y ∷ z ∷ w ∷ []
 stored l x y z w h = subst (λ (t : List ℕ). set (set (set (set t 0 x) 1 y) 2 z) 3 w ≡ x ∷ y ∷ z ∷ w ∷ []) (sym (eta 4 l h)) refl
@@ -24,31 +25,26 @@ module _ (f : ℕ → ℕ → ℕ → ℕ → ℕ) where
   unfolding columnOf
   column-stored l x y z w h p q r s = stored l x y z w h ∙ cc
 
-  -- the columns at 0, 4, 8 and 12 one after the other
-  pub four : List ℕ → List ℕ
-  four l =
-      columnOf f (take 4 l) ++ (columnOf f (take 4 (drop 4 l)) ++ (columnOf f (take 4 (drop 8 l)) ++ columnOf f (take 4 (drop 12 l))))
-
   abbrev columnAt : ℕ → List ℕ → List ℕ
   columnAt a l = put a l (columnOf f (take 4 (drop a l)))
 
-  at-all : (l : List ℕ) → length l ≡ 16 → columnAt 12 (columnAt 8 (columnAt 4 (columnAt 0 l))) ≡ four l
-  unfolding columnOf four
-  at-all l h = subst (λ (x : List ℕ). columnAt 12 (columnAt 8 (columnAt 4 (columnAt 0 x))) ≡ four x) (sym (eta 16 l h)) refl
+  at-all : (l : List ℕ) → length l ≡ 16 → columnAt 12 (columnAt 8 (columnAt 4 (columnAt 0 l))) ≡ columnsOf f l
+  unfolding columnOf columnsOf
+  at-all l h = subst (λ (x : List ℕ). columnAt 12 (columnAt 8 (columnAt 4 (columnAt 0 x))) ≡ columnsOf f x) (sym (eta 16 l h)) refl
 
-  pub four-stored : (l m1 m2 m3 m4 : List ℕ) → length l ≡ 16
+  pub columns-stored : (l m1 m2 m3 m4 : List ℕ) → length l ≡ 16
       → m1 ≡ columnOf f (take 4 l)
       → m2 ≡ columnOf f (take 4 (drop 4 (put 0 l m1)))
       → m3 ≡ columnOf f (take 4 (drop 8 (put 4 (put 0 l m1) m2)))
       → m4 ≡ columnOf f (take 4 (drop 12 (put 8 (put 4 (put 0 l m1) m2) m3)))
-      → put 12 (put 8 (put 4 (put 0 l m1) m2) m3) m4 ≡ four l
-  four-stored l m1 m2 m3 m4 h e1 e2 e3 e4 = rw (e4, e3, e2, e1) (at-all l h)
+      → put 12 (put 8 (put 4 (put 0 l m1) m2) m3) m4 ≡ columnsOf f l
+  columns-stored l m1 m2 m3 m4 h e1 e2 e3 e4 = rw (e4, e3, e2, e1) (at-all l h)
 
--- the four columns are the standard's
-pub mixed : (l : List ℕ) → length l ≡ 16 → four mixByte l ≡ mixColumns l
-unfolding four columnOf mixByte mixColumns columnsBy cell state
-mixed l h = subst (λ (x : List ℕ). four mixByte x ≡ mixColumns x) (sym (eta 16 l h)) refl
+-- the columns are the standard's
+pub mixed : (l : List ℕ) → length l ≡ 16 → columnsOf (byteBy false) l ≡ mixColumns l
+unfolding columnsOf columnOf byteBy mixByte mixColumns columnsBy cell state
+mixed l h = subst (λ (x : List ℕ). columnsOf (byteBy false) x ≡ mixColumns x) (sym (eta 16 l h)) refl
 
-pub inverse-mixed : (l : List ℕ) → length l ≡ 16 → four invMixByte l ≡ invMixColumns l
-unfolding four columnOf invMixByte invMixColumns columnsBy cell state
-inverse-mixed l h = subst (λ (x : List ℕ). four invMixByte x ≡ invMixColumns x) (sym (eta 16 l h)) refl
+pub inverse-mixed : (l : List ℕ) → length l ≡ 16 → columnsOf (byteBy true) l ≡ invMixColumns l
+unfolding columnsOf columnOf byteBy invMixByte invMixColumns columnsBy cell state
+inverse-mixed l h = subst (λ (x : List ℕ). columnsOf (byteBy true) x ≡ invMixColumns x) (sym (eta 16 l h)) refl

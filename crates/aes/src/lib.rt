@@ -1,10 +1,11 @@
 // The linear steps of FIPS 197, each on one part alone, data or mask.
 ghost use mathlib.Core.Path.{_≡_};
+ghost use Prim.Native.Nat.{_<_};
 ghost use lib.ListN.{length};
 ghost use Rattle.fips197.specs.Field.{xtime};
 ghost use Rattle.fips197.specs.Cipher.{_⊞_, shiftRows, mixColumns, invShiftRows, invMixColumns};
 ghost use Rattle.aes.specs.Steps.{onState, keyed};
-ghost use Rattle.aes.specs.Inner.{mixByte, mixColumn, invMixByte, invMixColumn};
+ghost use Rattle.aes.specs.Inner.{rowFrom, mixByte, invMixByte, byteBy, columnOf, columnsOf};
 
 // 4.2 xtime, straight through: the bit that leaves multiplies the polynomial, so that no byte decides a jump.
 pub fn double(b: u8) -> u8
@@ -13,27 +14,19 @@ pub fn double(b: u8) -> u8
     (b << 1) ^ ((b >> 7) * 0x1b)
 }
 
-// Row 1 moves by one column, row 2 by two, row 3 by three.
-fn shift_state_rows(part: &mut [u8])
-    requires { ⌜ length (now part) ≡ 16 ⌝ }
-    ensures { λ _. ⌜ now (part .exit) ≡ shiftRows (now (part .entry)) ⌝ }
+// A row is read round from the place that its first byte comes from. Places are no secret, so they may be computed.
+fn turn_row(part: &mut [u8], row: usize, from: usize)
+    requires { ⌜ (length (now part) ≡ 16) × ((row < 4) × (from < 16)) ⌝ }
+    ensures { λ _. ⌜ now (part .exit) ≡ rowFrom row from (now (part .entry)) ⌝ }
 {
-    let a = part[1];
-    part[1] = part[5];
-    part[5] = part[9];
-    part[9] = part[13];
-    part[13] = a;
-    let b = part[2];
-    part[2] = part[10];
-    part[10] = b;
-    let c = part[6];
-    part[6] = part[14];
-    part[14] = c;
-    let d = part[15];
-    part[15] = part[11];
-    part[11] = part[7];
-    part[7] = part[3];
-    part[3] = d;
+    let a = part[from];
+    let b = part[(from + 4) % 16];
+    let c = part[(from + 8) % 16];
+    let d = part[(from + 12) % 16];
+    part[row] = a;
+    part[row + 4] = b;
+    part[row + 8] = c;
+    part[row + 12] = d;
 }
 
 // 5.1.2 ShiftRows
@@ -41,31 +34,10 @@ pub fn shift_rows(part: &mut [u8])
     ensures { λ _. ⌜ now (part .exit) ≡ onState shiftRows (now (part .entry)) ⌝ }
 {
     if part.len() == 16 {
-        shift_state_rows(part);
+        turn_row(part, 1, 5);
+        turn_row(part, 2, 10);
+        turn_row(part, 3, 15);
     }
-}
-
-// The rows move back the other way.
-fn inverse_shift_state_rows(part: &mut [u8])
-    requires { ⌜ length (now part) ≡ 16 ⌝ }
-    ensures { λ _. ⌜ now (part .exit) ≡ invShiftRows (now (part .entry)) ⌝ }
-{
-    let a = part[13];
-    part[13] = part[9];
-    part[9] = part[5];
-    part[5] = part[1];
-    part[1] = a;
-    let b = part[10];
-    part[10] = part[2];
-    part[2] = b;
-    let c = part[14];
-    part[14] = part[6];
-    part[6] = c;
-    let d = part[3];
-    part[3] = part[7];
-    part[7] = part[11];
-    part[11] = part[15];
-    part[15] = d;
 }
 
 // 5.3.1 InvShiftRows
@@ -73,7 +45,9 @@ pub fn inverse_shift_rows(part: &mut [u8])
     ensures { λ _. ⌜ now (part .exit) ≡ onState invShiftRows (now (part .entry)) ⌝ }
 {
     if part.len() == 16 {
-        inverse_shift_state_rows(part);
+        turn_row(part, 1, 13);
+        turn_row(part, 2, 10);
+        turn_row(part, 3, 7);
     }
 }
 
@@ -111,40 +85,6 @@ fn mix_byte(a: u8, b: u8, c: u8, d: u8) -> u8
     double(a) ^ (double(b) ^ b) ^ c ^ d
 }
 
-fn mix_column(column: &mut [u8])
-    requires { ⌜ length (now column) ≡ 4 ⌝ }
-    ensures { λ _. ⌜ now (column .exit) ≡ mixColumn (now (column .entry)) ⌝ }
-{
-    let a = column[0];
-    let b = column[1];
-    let c = column[2];
-    let d = column[3];
-    column[0] = mix_byte(a, b, c, d);
-    column[1] = mix_byte(b, c, d, a);
-    column[2] = mix_byte(c, d, a, b);
-    column[3] = mix_byte(d, a, b, c);
-}
-
-// Each column is rewritten where it stands.
-fn mix_state_columns(part: &mut [u8])
-    requires { ⌜ length (now part) ≡ 16 ⌝ }
-    ensures { λ _. ⌜ now (part .exit) ≡ mixColumns (now (part .entry)) ⌝ }
-{
-    mix_column(&mut part[0..4]);
-    mix_column(&mut part[4..8]);
-    mix_column(&mut part[8..12]);
-    mix_column(&mut part[12..16]);
-}
-
-// 5.1.3 MixColumns
-pub fn mix_columns(part: &mut [u8])
-    ensures { λ _. ⌜ now (part .exit) ≡ onState mixColumns (now (part .entry)) ⌝ }
-{
-    if part.len() == 16 {
-        mix_state_columns(part);
-    }
-}
-
 // 5.3.3 0e a + 0b b + 0d c + 09 d: what has a term x^3 is doubled three times, x^2 twice, x once.
 fn inverse_mix_byte(a: u8, b: u8, c: u8, d: u8) -> u8
     ensures { λ r. ⌜ r ≡ invMixByte a b c d ⌝ }
@@ -155,29 +95,49 @@ fn inverse_mix_byte(a: u8, b: u8, c: u8, d: u8) -> u8
     z ^ b ^ c ^ d
 }
 
-fn inverse_mix_column(column: &mut [u8])
+// A byte of a column of either direction. The direction is no secret, so it may decide a jump.
+fn column_byte(inverse: bool, a: u8, b: u8, c: u8, d: u8) -> u8
+    ensures { λ r. ⌜ r ≡ byteBy inverse a b c d ⌝ }
+{
+    if inverse {
+        inverse_mix_byte(a, b, c, d)
+    } else {
+        mix_byte(a, b, c, d)
+    }
+}
+
+fn mix_column(column: &mut [u8], inverse: bool)
     requires { ⌜ length (now column) ≡ 4 ⌝ }
-    ensures { λ _. ⌜ now (column .exit) ≡ invMixColumn (now (column .entry)) ⌝ }
+    ensures { λ _. ⌜ now (column .exit) ≡ columnOf (byteBy inverse) (now (column .entry)) ⌝ }
 {
     let a = column[0];
     let b = column[1];
     let c = column[2];
     let d = column[3];
-    column[0] = inverse_mix_byte(a, b, c, d);
-    column[1] = inverse_mix_byte(b, c, d, a);
-    column[2] = inverse_mix_byte(c, d, a, b);
-    column[3] = inverse_mix_byte(d, a, b, c);
+    column[0] = column_byte(inverse, a, b, c, d);
+    column[1] = column_byte(inverse, b, c, d, a);
+    column[2] = column_byte(inverse, c, d, a, b);
+    column[3] = column_byte(inverse, d, a, b, c);
 }
 
 // Each column is rewritten where it stands.
-fn inverse_mix_state_columns(part: &mut [u8])
+fn mix_state_columns(part: &mut [u8], inverse: bool)
     requires { ⌜ length (now part) ≡ 16 ⌝ }
-    ensures { λ _. ⌜ now (part .exit) ≡ invMixColumns (now (part .entry)) ⌝ }
+    ensures { λ _. ⌜ now (part .exit) ≡ columnsOf (byteBy inverse) (now (part .entry)) ⌝ }
 {
-    inverse_mix_column(&mut part[0..4]);
-    inverse_mix_column(&mut part[4..8]);
-    inverse_mix_column(&mut part[8..12]);
-    inverse_mix_column(&mut part[12..16]);
+    mix_column(&mut part[0..4], inverse);
+    mix_column(&mut part[4..8], inverse);
+    mix_column(&mut part[8..12], inverse);
+    mix_column(&mut part[12..16], inverse);
+}
+
+// 5.1.3 MixColumns
+pub fn mix_columns(part: &mut [u8])
+    ensures { λ _. ⌜ now (part .exit) ≡ onState mixColumns (now (part .entry)) ⌝ }
+{
+    if part.len() == 16 {
+        mix_state_columns(part, false);
+    }
 }
 
 // 5.3.3 InvMixColumns
@@ -185,6 +145,6 @@ pub fn inverse_mix_columns(part: &mut [u8])
     ensures { λ _. ⌜ now (part .exit) ≡ onState invMixColumns (now (part .entry)) ⌝ }
 {
     if part.len() == 16 {
-        inverse_mix_state_columns(part);
+        mix_state_columns(part, true);
     }
 }

@@ -3,7 +3,7 @@ use mathlib.Core.Path.{refl}
 use Rattle.fips197.specs.Field.{field}
 use Rattle.fips197.specs.Cipher.{fips}
 use Rattle.tower.specs.Tower.{tower}
-use Rattle.tower.specs.Points.{masked}
+use Rattle.points.specs.Points.{masked}
 use Rattle.sbox.specs.Sbox.{ways}
 use Rattle.examples.specs.Examples as specs
 

@@ -5,7 +5,7 @@ use mathlib.Core.List.{List, [], _∷_, map}
 use lib.ListN.{getD, take}
 use Rattle.fips197.specs.Cipher.{sbox, invSbox}
 use Rattle.tower.specs.Tower.{pairProduct, nibbleInverse, toTower, fromTower}
-use Rattle.tower.specs.Points.{recordPoints}
+use Rattle.points.specs.Points.{recordPoints}
 use Rattle.tower.specs.declared.Record.{Record}
 use Rattle.sbox.specs.declared.Direction.the-variants.{Encrypt}
 use Rattle.sbox.specs.Sbox.{newByte, newMask}

@@ -4,8 +4,10 @@ use Prim.Native.Nat.{ℕ, zero, suc, _*_, _/_, _%_, _^_, _<_}
 use native.Mathlib.Nat.{le-refl, le-trans, le-suc, mod-lt, zero-mul, one-mul}
 use native.Mathlib.Omega.{arith}
 use lib.Bits.{xor-shifted, xor-mod, xor-shr}
+use lib.Dec.{T, eqb}
 use lib.Pow.{split, pow-pos, shr-lt}
 use Rattle.fips197.specs.Field.{_⊕_}
+use Rattle.fips197.proofs.Below.{allb, eq1}
 use Rattle.fips197.proofs.Xor.{two-pos, self, cancel, zero-r}
 
 abbrev pub Additive : (ℕ → ℕ) → Type 0
@@ -32,6 +34,10 @@ module _ (f g : ℕ → ℕ) (af : Additive f) (ag : Additive g) where
       ∙ ap₂ _⊕_ (top k (x / 2 ^ k) (shr-lt 1 k (subst (λ (n : ℕ). x < 2 ^ n) (omega arith) h)) (e k (le-refl (suc k))))
       (agree k (λ i l. e i (le-trans l (le-suc k))) (x % 2 ^ k) (mod-lt x (pow-pos k)))
       ∙ sym (ag _ _) ∙ ap g p
+
+  -- bytes: eight computed tests
+  pub agree-on-bytes : T (allb 8 (λ i. eqb (f (2 ^ i)) (g (2 ^ i)))) → (x : ℕ) → x < 256 → f x ≡ g x
+  agree-on-bytes t = agree 8 (eq1 8 (λ i. f (2 ^ i)) (λ i. g (2 ^ i)) t)
 
 -- a bit times a number is additive in the bit, and in the number
 bit-by : (c d a : ℕ) → c < 2 → d < 2 → (c ⊕ d) * a ≡ c * a ⊕ d * a

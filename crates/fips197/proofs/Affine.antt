@@ -1,5 +1,5 @@
 -- The affine step and its inverse undo each other, and their linear parts are additive; so the S-box is a permutation of the bytes. Assumes nothing.
-use mathlib.Core.Path.{_≡_, sym, ap, ap₂, _∙_, fun-ext}
+use mathlib.Core.Path.{_≡_, refl, sym, ap, ap₂, _∙_, fun-ext}
 use Prim.Native.Nat.{ℕ, _+_, _*_, _/_, _%_, _^_, _<_}
 use native.Mathlib.Nat.{add-zero}
 use lib.Bits.{xor-mod, xor-shr, xor-block}
@@ -8,46 +8,10 @@ use lib.Dec.{ltb, ltb→lt}
 use Rattle.fips197.specs.Field.{field, _⊕_, inverse}
 use Rattle.fips197.specs.Cipher.{fips, bit, byte, linear, affine, sbox, invLinear, invAffine, invSbox}
 use Rattle.fips197.specs.Claims.{SboxPermutes}
-use Rattle.fips197.proofs.Below.{eq1, all-at}
+use Rattle.fips197.proofs.Below.{all-at}
 use Rattle.fips197.proofs.Xor.{sums}
-use Rattle.fips197.proofs.Additive.{Additive}
-use Rattle.fips197.proofs.Field.{product-lt}
-
--- computed over all bytes
-twice-inverse : (b : ℕ) → b < 256 → inverse (inverse b) ≡ b
-unfolding field
-twice-inverse = eq1 256 (λ b. inverse (inverse b)) (λ b. b) tt
-
-pub affine-off : (b : ℕ) → b < 256 → invAffine (affine b) ≡ b
-unfolding fips field
-affine-off = eq1 256 (λ b. invAffine (affine b)) (λ b. b) tt
-
-pub affine-on : (b : ℕ) → b < 256 → affine (invAffine b) ≡ b
-unfolding fips field
-affine-on = eq1 256 (λ b. affine (invAffine b)) (λ b. b) tt
-
-pub inv-affine-lt : (b : ℕ) → b < 256 → invAffine b < 256
-unfolding fips field
-inv-affine-lt b h = ltb→lt (invAffine b) 256 (all-at 256 (λ b. ltb (invAffine b) 256) tt b h)
-
-pub inv-linear-lt : (b : ℕ) → b < 256 → invLinear b < 256
-unfolding fips field
-inv-linear-lt b h = ltb→lt (invLinear b) 256 (all-at 256 (λ b. ltb (invLinear b) 256) tt b h)
-
-pub affine-lt : (b : ℕ) → b < 256 → affine b < 256
-unfolding fips field
-affine-lt b h = ltb→lt (affine b) 256 (all-at 256 (λ b. ltb (affine b) 256) tt b h)
-
-pub inverse-lt : (b : ℕ) → inverse b < 256
-unfolding inverse
-inverse-lt b = product-lt _ _
-
-pub sbox-permutes : SboxPermutes
-unfolding sbox invSbox
-sbox-permutes b h = (
-  ap inverse (affine-off (inverse b) (inverse-lt b)) ∙ twice-inverse b h,
-  ap affine (twice-inverse (invAffine b) (inv-affine-lt b h)) ∙ affine-on b h,
-)
+use Rattle.fips197.proofs.Additive.{Additive, agree-on-bytes}
+use Rattle.fips197.proofs.Inverse.{inverse-lt, twice-inverse}
 
 bit-xor : (i x y : ℕ) → bit (x ⊕ y) i ≡ bit x i ⊕ bit y i
 unfolding bit _⊕_
@@ -74,3 +38,46 @@ unfolding invLinear
 inv-linear-additive x y =
     ap byte (fun-ext (λ i. simp (bit-xor, sums)))
     ∙ byte-xor (λ i. bit x ((i + 2) % 8) ⊕ bit x ((i + 5) % 8) ⊕ bit x ((i + 7) % 8)) (λ i. bit y ((i + 2) % 8) ⊕ bit y ((i + 5) % 8) ⊕ bit y ((i + 7) % 8))
+
+-- the linear parts undo each other: on the powers of two, and so everywhere
+linear-off : (b : ℕ) → b < 256 → invLinear (linear b) ≡ b
+unfolding fips field
+linear-off =
+    agree-on-bytes (λ b. invLinear (linear b)) (λ b. b) (λ x y. ap invLinear (linear-additive x y) ∙ inv-linear-additive (linear x) (linear y)) (λ x y. refl) tt
+
+linear-on : (b : ℕ) → b < 256 → linear (invLinear b) ≡ b
+unfolding fips field
+linear-on =
+    agree-on-bytes (λ b. linear (invLinear b)) (λ b. b) (λ x y. ap linear (inv-linear-additive x y) ∙ linear-additive (invLinear x) (invLinear y)) (λ x y. refl) tt
+
+constants : (invLinear 0x63 ≡ 0x05) × (linear 0x05 ≡ 0x63)
+unfolding fips field
+constants = (refl, refl)
+
+pub affine-off : (b : ℕ) → b < 256 → invAffine (affine b) ≡ b
+unfolding affine invAffine
+affine-off b h = rw (inv-linear-additive (linear b) 0x63, constants .0, linear-off b h) (simp sums)
+
+pub affine-on : (b : ℕ) → b < 256 → affine (invAffine b) ≡ b
+unfolding affine invAffine
+affine-on b h = rw (linear-additive (invLinear b) 0x05, constants .1, linear-on b h) (simp sums)
+
+-- computed over all bytes
+pub inv-affine-lt : (b : ℕ) → b < 256 → invAffine b < 256
+unfolding fips field
+inv-affine-lt b h = ltb→lt (invAffine b) 256 (all-at 256 (λ b. ltb (invAffine b) 256) tt b h)
+
+pub inv-linear-lt : (b : ℕ) → b < 256 → invLinear b < 256
+unfolding fips field
+inv-linear-lt b h = ltb→lt (invLinear b) 256 (all-at 256 (λ b. ltb (invLinear b) 256) tt b h)
+
+pub affine-lt : (b : ℕ) → b < 256 → affine b < 256
+unfolding fips field
+affine-lt b h = ltb→lt (affine b) 256 (all-at 256 (λ b. ltb (affine b) 256) tt b h)
+
+pub sbox-permutes : SboxPermutes
+unfolding sbox invSbox
+sbox-permutes b h = (
+  ap inverse (affine-off (inverse b) (inverse-lt b)) ∙ twice-inverse b h,
+  ap affine (twice-inverse (invAffine b) (inv-affine-lt b h)) ∙ affine-on b h,
+)

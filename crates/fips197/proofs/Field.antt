@@ -14,7 +14,7 @@ double : (a b : ℕ) → (a ⊕ b) * 2 ≡ a * 2 ⊕ b * 2
 unfolding _⊕_
 double a b = sym (add-zero _) ∙ sym (xor-block 1 a b 0 0 two-pos two-pos) ∙ ap₂ bitXor (add-zero (a * 2)) (add-zero (b * 2))
 
-xtime-additive : Additive xtime
+pub xtime-additive : Additive xtime
 unfolding xtime
 xtime-additive a b = ap₂ _⊕_ (double a b) (bit-times 7 0x11b a b) ∙ swap4 _ _ _ _
 

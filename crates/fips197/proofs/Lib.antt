@@ -3,6 +3,7 @@ pub mod Lists
 pub mod Xor
 pub mod Additive
 pub mod Field
+pub mod Inverse
 pub mod Affine
 pub mod State
 pub mod Undo

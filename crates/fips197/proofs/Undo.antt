@@ -9,12 +9,13 @@ use lib.ListN.{length, getD, take, drop, length-take}
 use Rattle.fips197.specs.Field.{field, _⊕_, _•_, inverse}
 use Rattle.fips197.specs.Cipher.{_⊞_, cell, state, sbox, subBytes, shiftRows, columnsBy, mixColumns, roundKey, addRoundKey, rounds, cipher, invShiftRows, invSbox, invSubBytes, invMixColumns, invRounds, invCipher}
 use Rattle.fips197.specs.Claims.{Bytes, CipherUndone}
-use Rattle.fips197.proofs.Below.{eq1, allb}
+use Rattle.fips197.proofs.Below.{allb}
 use Rattle.fips197.proofs.Lists.{eta}
 use Rattle.fips197.proofs.Xor.{lt, sums, self, zero-r}
-use Rattle.fips197.proofs.Additive.{Additive, agree}
+use Rattle.fips197.proofs.Additive.{Additive, agree-on-bytes}
 use Rattle.fips197.proofs.Field.{product-lt, product-right}
-use Rattle.fips197.proofs.Affine.{sbox-permutes, inverse-lt, affine-lt}
+use Rattle.fips197.proofs.Inverse.{inverse-lt}
+use Rattle.fips197.proofs.Affine.{sbox-permutes, affine-lt}
 use Rattle.fips197.proofs.State.{plus-off, length-plus, length-state}
 
 -- ---- lists of bytes
@@ -107,10 +108,10 @@ back-additive p q r s x y = simp (product-right, sums)
 
 back-own : (x : ℕ) → x < 256 → back 2 1 1 3 x ≡ x
 unfolding back field
-back-own = agree (back 2 1 1 3) (λ x. x) (back-additive 2 1 1 3) (λ x y. refl) 8 (eq1 8 (λ i. back 2 1 1 3 (2 ^ i)) (λ i. 2 ^ i) tt)
+back-own = agree-on-bytes (back 2 1 1 3) (λ x. x) (back-additive 2 1 1 3) (λ x y. refl) tt
 
 back-none : (p q r s : ℕ) → T (allb 8 (λ i. eqb (back p q r s (2 ^ i)) 0)) → (x : ℕ) → x < 256 → back p q r s x ≡ 0
-back-none p q r s t = agree (back p q r s) (λ x. 0) (back-additive p q r s) (λ x y. sym (self 0)) 8 (eq1 8 (λ i. back p q r s (2 ^ i)) (λ i. 0) t)
+back-none p q r s = agree-on-bytes (back p q r s) (λ x. 0) (back-additive p q r s) (λ x y. sym (self 0))
 
 column-parts : (a b c d : ℕ)
     → 0x0e • (2 • a ⊕ 3 • b ⊕ 1 • c ⊕ 1 • d) ⊕ 0x0b • (2 • b ⊕ 3 • c ⊕ 1 • d ⊕ 1 • a) ⊕ 0x0d • (2 • c ⊕ 3 • d ⊕ 1 • a ⊕ 1 • b) ⊕ 0x09 • (2 • d ⊕ 3 • a ⊕ 1 • b ⊕ 1 • c)

@@ -3,7 +3,7 @@ use Prim.Native.Nat.{ℕ}
 use mathlib.Core.List.{List, [], _∷_}
 use lib.ListN.{length}
 use Rattle.refusal.specs.Answer.{Answer, done, refused, first, above, isNot}
-use Rattle.tower.specs.Points.{maskedInverse, recordPoints}
+use Rattle.points.specs.Points.{maskedInverse, recordPoints}
 use Rattle.tower.specs.declared.Record.{Record}
 use Rattle.inversion.specs.declared.Masked.{Masked}
 use Rattle.inversion.specs.declared.Masked.the-variants.{Byte, Refused}

@@ -2,7 +2,7 @@
 ghost use mathlib.Core.Path.{_≡_};
 ghost use Prim.Native.Nat.{_+_, _<_};
 ghost use lib.ListN.{replicate, set, length};
-ghost use Rattle.tower.specs.Points.{maskedInverse, recordPoints};
+ghost use Rattle.points.specs.Points.{maskedInverse, recordPoints};
 ghost use Rattle.rows.specs.Rows.{made, rowRun, ran, rows, start, put, rowRecorded, recorded};
 use tower::Record;
 use tower::halves;

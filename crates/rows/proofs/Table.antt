@@ -14,7 +14,7 @@ use Rattle.fips197.proofs.Lists.{elements, eta}
 use Rattle.fips197.proofs.Xor.{lt}
 use Rattle.refusal.specs.Answer.{Answer, done}
 use Rattle.tower.specs.Tower.{hi, lo, join, exchange, pairProduct, nibbleProduct}
-use Rattle.tower.specs.Points.{masked, fourteen, eight, recordPoints, maskedInverse}
+use Rattle.points.specs.Points.{masked, fourteen, eight, recordPoints, maskedInverse}
 use Rattle.rows.specs.Rows.{from, made, rowRun, ran, rows, start, put, rowRecorded, recorded}
 use Rattle.tower.specs.declared.Record.{Record}
 use Rattle.tower.proofs.Split.{hi-lt, lo-lt, lo-small}

@@ -5,7 +5,7 @@ use lib.ListN.{getD, set, replicate}
 use lib.Dec.{ltb}
 use Rattle.fips197.specs.Field.{_⊕_}
 use Rattle.tower.specs.Tower.{hi, lo, join, scaledSquare, exchange, pairProduct, nibbleProduct}
-use Rattle.tower.specs.Counts.{pick}
+use Rattle.points.specs.Counts.{pick}
 use Rattle.tower.specs.declared.Record.{Record}
 
 -- the first where op is n or above, else the second

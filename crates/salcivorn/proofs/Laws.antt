@@ -13,7 +13,7 @@ use Rattle.refusal.specs.declared.Check.the-variants.{Passed, Failed}
 use Rattle.refusal.specs.Refusal.{number, refusal, failed}
 use Rattle.refusal.specs.Answer.{Answer, done, refused, answerNumber, first, above, either, isNot}
 use Rattle.refusal.proofs.First.{first-stop, first-on, all-passed, one-failed, first-part, passed-is}
-use Rattle.tower.specs.Points.{recordPoints}
+use Rattle.points.specs.Points.{recordPoints}
 use Rattle.inversion.specs.declared.Masked.{Masked}
 use Rattle.inversion.specs.declared.Masked.the-variants.{Byte, Refused}
 use Rattle.inversion.specs.Answers.{byteAndMask}

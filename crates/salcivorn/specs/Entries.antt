@@ -4,7 +4,7 @@ use mathlib.Core.List.{List, [], _∷_}
 use mathlib.Core.Bool.{Bool}
 use lib.ListN.{length, getD}
 use Rattle.refusal.specs.Answer.{Answer, done, refused, answerNumber, first, above, either, isNot, noneOf}
-use Rattle.tower.specs.Points.{recordPoints}
+use Rattle.points.specs.Points.{recordPoints}
 use Rattle.sbox.specs.declared.Direction.{Direction}
 use Rattle.sbox.specs.declared.Direction.the-variants.{Encrypt, Decrypt}
 use Rattle.sbox.specs.Sbox.{enterData, enterMask, newByte, newMask, recordOf}

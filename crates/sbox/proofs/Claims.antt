@@ -1,28 +1,32 @@
--- Every claim of specs/Claims.antt, proved: the inverse by one computed test over all bytes, carried to all numbers, the S-box from the masked inversion and the additivity of its ways. Assumes nothing.
+-- Every claim of specs/Claims.antt, proved: the inverse by one computed test against the list of all inverses, carried to all numbers, the S-box from the masked inversion and the additivity of its ways. Assumes nothing.
 use mathlib.Core.Path.{_≡_, refl, sym, ap, ap₂, _∙_}
 use mathlib.Core.List.{List, [], _∷_}
 use Prim.Native.Nat.{ℕ, _*_, _/_, _%_, _^_, _<_, _≤_}
 use native.Mathlib.Nat.{mod-lt, zero-lt-suc}
 use native.Mathlib.Omega.{arith}
-use lib.ListN.{length}
+use lib.ListN.{length, getD}
 use Rattle.fips197.specs.Field.{field, _⊕_, _•_, inverse}
 use Rattle.fips197.specs.Cipher.{linear, affine, sbox, invLinear, invAffine, invSbox}
 use Rattle.fips197.proofs.Below.{eq1, Each, none, _▸_, each-at}
 use Rattle.fips197.proofs.Xor.{sums, zero-r}
+use Rattle.fips197.proofs.Inverse.{inverses, listed}
 use Rattle.fips197.proofs.Affine.{linear-additive, inv-linear-additive}
 use Rattle.tower.specs.Tower.{tower, added, toColumns, toTower, fromTower, byteInverse}
-use Rattle.tower.specs.Points.{maskedInverse}
+use Rattle.points.specs.Points.{maskedInverse}
 use Rattle.tower.specs.Claims.{Good}
 use Rattle.tower.specs.declared.Record.{Record}
 use Rattle.tower.proofs.Basis.{to-additive, from-additive, to-lt}
-use Rattle.tower.proofs.Claims.{inversion-is-right}
+use Rattle.points.proofs.Claims.{inversion-is-right}
 use Rattle.sbox.specs.declared.Direction.the-variants.{Encrypt, Decrypt}
 use Rattle.sbox.specs.Sbox.{enter, leave, enterData, enterMask, newByte, newMask}
 use Rattle.sbox.specs.Claims as claims
 
+on-list : (a : ℕ) → a < 256 → fromTower (byteInverse (toTower a)) ≡ getD inverses a 0
+unfolding tower field inverses
+on-list = eq1 256 (λ a. fromTower (byteInverse (toTower a))) (λ a. getD inverses a 0) tt
+
 on-bytes : (a : ℕ) → a < 256 → fromTower (byteInverse (toTower a)) ≡ inverse a
-unfolding tower field
-on-bytes = eq1 256 (λ a. fromTower (byteInverse (toTower a))) inverse tt
+on-bytes a h = on-list a h ∙ sym (listed a h)
 
 -- the eight bits of a byte are read, and nothing above them
 bits-cut : (a : ℕ) → Each (λ i. a % 256 / 2 ^ i % 2 ≡ a / 2 ^ i % 2) 8

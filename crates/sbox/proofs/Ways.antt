@@ -10,7 +10,7 @@ use Rattle.fips197.proofs.Below.{eq1}
 use Rattle.refusal.specs.declared.Refusal.{Refusal}
 use Rattle.refusal.specs.Answer.{Answer, done, refused, above, isNot}
 use Rattle.refusal.proofs.First.{refusal-passed, answer-passed}
-use Rattle.tower.specs.Points.{maskedInverse, recordPoints}
+use Rattle.points.specs.Points.{maskedInverse, recordPoints}
 use Rattle.tower.specs.declared.Record.{Record}
 use Rattle.inversion.specs.declared.Masked.{Masked}
 use Rattle.inversion.specs.declared.Masked.the-variants.{Byte, Refused}

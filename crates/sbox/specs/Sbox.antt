@@ -6,7 +6,7 @@ use Rattle.fips197.specs.Field.{_⊕_}
 use Rattle.fips197.specs.Cipher.{linear, invLinear}
 use Rattle.refusal.specs.Answer.{Answer, done, refused, first, above, isNot}
 use Rattle.tower.specs.Tower.{toTower, fromTower}
-use Rattle.tower.specs.Points.{maskedInverse, recordPoints}
+use Rattle.points.specs.Points.{maskedInverse, recordPoints}
 use Rattle.tower.specs.declared.Record.{Record}
 use Rattle.sbox.specs.declared.Direction.{Direction}
 use Rattle.sbox.specs.declared.Direction.the-variants.{Encrypt, Decrypt}

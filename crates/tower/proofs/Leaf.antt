@@ -1,6 +1,7 @@
 -- What the arithmetic of the code computes is the tower's: splits and joins by the laws of bits, products by one computed test a level. Assumes nothing.
 use mathlib.Core.Path.{_≡_, refl, sym, ap, ap₂, _∙_}
-use mathlib.Core.List.{List, _∷_}
+use mathlib.Core.Bool.{Bool}
+use mathlib.Core.List.{List, [], _∷_}
 use Prim.Native.Nat.{ℕ, zero, suc, _+_, _-_, _*_, _/_, _%_, _^_, _<_, _≤_}
 use native.Mathlib.Nat.{mod-lt, mod-eq-of-lt, mod-mod, zero-lt-suc, zero-mul, one-mul}
 use native.Mathlib.Numerals.{add-one}
@@ -13,6 +14,7 @@ use lib.Pow as Pow
 use Rattle.fips197.specs.Field.{_⊕_, field}
 use Rattle.fips197.proofs.Below.{eq1, eq2}
 use Rattle.fips197.proofs.Xor.{assoc, zero-r, lt}
+use Rattle.refusal.specs.Answer.{Answer, done, refused, first}
 use Rattle.tower.specs.Tower.{tower, hi, lo, join, scaledSquare, normOver, productOver, inverseOver, bitProduct, pairProduct, nibbleProduct, added}
 use Rattle.tower.specs.Claims.{FieldLaws}
 use Rattle.tower.proofs.Split.{lo-lt, lo-small}
@@ -108,3 +110,8 @@ change-next l x i sum v h li ev e =
 pub change-all : (l : List ℕ) (x i sum : ℕ) → length l ≡ 8 → 8 ≤ i → sum ⊕ added (drop i l) x ≡ added l x → sum ≡ added l x
 unfolding added
 change-all l x i sum h li e = rw (drop-of-length-le l {i = i} (omega arith), zero-r) at e
+
+-- ---- what a pair or nibble call answers, from what its check and its operation answer
+
+pub answered : (x : Answer ℕ) (b b′ : Bool) (v v′ : ℕ) → x ≡ first ((1, b) ∷ []) refused (done v) → b ≡ b′ → v ≡ v′ → x ≡ first ((1, b′) ∷ []) refused (done v′)
+answered x b b′ v v′ e p q = e ∙ ap₂ (λ (c : Bool) (w : ℕ). first ((1, c) ∷ []) refused (done w)) p q

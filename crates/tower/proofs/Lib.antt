@@ -1,11 +1,6 @@
 pub mod Split
 pub mod Level
 pub mod Basis
-pub mod Inversion
-pub mod Sum
-pub mod Total
-pub mod Stage
-pub mod Counts
 pub mod Claims
 pub mod Leaf
 pub mod Unique

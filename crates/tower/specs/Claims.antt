@@ -4,8 +4,6 @@ use mathlib.Core.List.{[], _∷_}
 use Prim.Native.Nat.{ℕ, _<_, _≤_, _^_}
 use Rattle.fips197.specs.Field.{_⊕_, _•_}
 use Rattle.tower.specs.Tower.{pairProduct, pairInverse, nibbleProduct, nibbleInverse, byteProduct, byteInverse, toTower, fromTower, fromColumns}
-use Rattle.tower.specs.Points.{maskedInverse}
-use Rattle.tower.specs.Counts.{counted, listed, table}
 use Rattle.tower.specs.declared.Record.{Record}
 
 -- The field laws of a level whose numbers have k bits.
@@ -68,11 +66,3 @@ pub record Good (ρ : Record) : Type 0 where
   pub qt : ρ .qt < 256
   pub s : ρ .s < 256
   pub r : ρ .r ≤ 3
-
--- the masked inversion: its answer plus S is the inverse of masked byte plus mask
-abbrev pub InversionIsRight : Type 0
-InversionIsRight = (a m : ℕ) (ρ : Record) → a < 256 → m < 256 → Good ρ → maskedInverse a m ρ ⊕ ρ .s ≡ byteInverse (a ⊕ m)
-
--- Demand 3: for every byte A, every point from 1 to 62 and every value v, the count over all 67,108,864 settings is the table's.
-abbrev pub Demand3 : Type 0
-Demand3 = (A n v : ℕ) → A < 256 → 1 ≤ n → n ≤ 62 → counted n A v ≡ listed table n v

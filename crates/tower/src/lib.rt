@@ -1,8 +1,9 @@
-// The tower GF(((2^2)^2)^2): pairs, nibbles and tower bytes, the changes of basis. What the masked inversion and its 62 points are is defined here too.
+// The tower GF(((2^2)^2)^2): pairs, nibbles and tower bytes, the changes of basis.
 ghost use mathlib.Core.Path.{_≡_};
 ghost use Prim.Native.Nat.{_*_, _<_};
 ghost use lib.ListN.{length};
 ghost use mathlib.Core.List.{[], _∷_};
+ghost use Rattle.refusal.specs.Refusal.{failed};
 ghost use Rattle.refusal.specs.Answer.{first, done, refused, above, either};
 ghost use Rattle.tower.specs.Tower.{fromTower, toTower, pairProduct, pairInverse, nibbleProduct, nibbleInverse, byteProduct, byteInverse, added};
 ghost use Rattle.tower.specs.Answers.{element};
@@ -109,38 +110,36 @@ pub fn byte_inverse(x: u8) -> u8
     halves::join_nibbles(h, l)
 }
 
+// What a pair or nibble call answers. The value is made before it is known to be wanted, which harms none: its operations are total.
+fn answer(check: Check, value: u8) -> Element
+    ensures { λ r. ⌜ element r ≡ first ((1, failed check) ∷ []) refused (done value) ⌝ }
+{
+    let Check::Passed = check else {
+        return Element::Refused(Refusal::Operand(1));
+    };
+    Element::Value(value)
+}
+
 pub fn pair_product(x: u8, y: u8) -> Element
     ensures { λ r. ⌜ element r ≡ first ((1, either (above 3 x) (above 3 y)) ∷ []) refused (done (pairProduct x y)) ⌝ }
 {
-    let Check::Passed = refusal::check_both(x, y, 3) else {
-        return Element::Refused(Refusal::Operand(1));
-    };
-    Element::Value(low::pair_times(x, y))
+    answer(refusal::check_both(x, y, 3), low::pair_times(x, y))
 }
 
 pub fn pair_inverse(x: u8) -> Element
     ensures { λ r. ⌜ element r ≡ first ((1, above 3 x) ∷ []) refused (done (pairInverse x)) ⌝ }
 {
-    let Check::Passed = refusal::check_most(x, 3) else {
-        return Element::Refused(Refusal::Operand(1));
-    };
-    Element::Value(low::exchange(x))
+    answer(refusal::check_most(x, 3), low::exchange(x))
 }
 
 pub fn nibble_product(x: u8, y: u8) -> Element
     ensures { λ r. ⌜ element r ≡ first ((1, either (above 15 x) (above 15 y)) ∷ []) refused (done (nibbleProduct x y)) ⌝ }
 {
-    let Check::Passed = refusal::check_both(x, y, 15) else {
-        return Element::Refused(Refusal::Operand(1));
-    };
-    Element::Value(low::nibble_times(x, y))
+    answer(refusal::check_both(x, y, 15), low::nibble_times(x, y))
 }
 
 pub fn nibble_inverse(x: u8) -> Element
     ensures { λ r. ⌜ element r ≡ first ((1, above 15 x) ∷ []) refused (done (nibbleInverse x)) ⌝ }
 {
-    let Check::Passed = refusal::check_most(x, 15) else {
-        return Element::Refused(Refusal::Operand(1));
-    };
-    Element::Value(invert_nibble(x))
+    answer(refusal::check_most(x, 15), invert_nibble(x))
 }

@@ -1,7 +1,8 @@
 -- `aes::mix_columns` meets its contract: from the test of the length. Assumes nothing.
-use mathlib.Core.Path.{refl}
-use Rattle.aes.proofs.Chosen.{on-state, off-state}
+use mathlib.Core.Path.{refl, _∙_}
 use borrow.Author.Needs.{needs}
+use Rattle.aes.proofs.Columns.{mixed}
+use Rattle.aes.proofs.Chosen.{on-state, off-state}
 use Rattle.aes.proofs.mix_columns.Statement.{statement}
 use Rattle.aes.proofs.mix_columns.Tie as tie
 
@@ -12,7 +13,9 @@ same-length : tie.Need-same-length
 same-length c = search needs
 
 returns : tie.Need-returns
-returns c = on-state _ _ _ (c .before .before .before .before .if1 .taken) (c .before .before .mix-state-columns .ensures)
+returns c =
+    let long = c .before .before .before .before .if1 .taken in
+    on-state _ _ _ long (c .before .before .mix-state-columns .ensures ∙ mixed _ long)
 
 returns-2 : tie.Need-returns-2
 returns-2 c = off-state _ _ _ (c .if1 .left) refl

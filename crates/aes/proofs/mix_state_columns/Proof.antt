@@ -1,9 +1,7 @@
 -- `aes::mix_state_columns` meets its contract: from the four columns one after the other. Assumes nothing.
 use native.Mathlib.Omega.{arith}
-use mathlib.Core.Path.{_∙_}
-use Rattle.aes.proofs.Columns.{four-stored, mixed}
-use Rattle.aes.specs.Inner.{mixByte}
 use borrow.Author.Needs.{needs}
+use Rattle.aes.proofs.Columns.{columns-stored}
 use Rattle.aes.proofs.mix_state_columns.Statement.{statement}
 use Rattle.aes.proofs.mix_state_columns.Tie as tie
 
@@ -64,9 +62,8 @@ returns c =
     let third = fourth .before .before .before .before in
     let second = third .before .before .before .before in
     let first = second .before .before .before .before in
-    four-stored mixByte _ _ _ _ _ (omega arith) (first .mix-column .ensures) (second .mix-column2 .ensures) (third .mix-column3 .ensures)
+    columns-stored _ _ _ _ _ _ (omega arith) (first .mix-column .ensures) (second .mix-column2 .ensures) (third .mix-column3 .ensures)
     (fourth .mix-column4 .ensures)
-    ∙ mixed _ (omega arith)
 
 pub mix-state-columns-spec : {M : Type 1} → statement M
 mix-state-columns-spec =

@@ -1,34 +1,21 @@
 -- `tower::nibble_product` meets its contract: from the check's answer and the product. Assumes nothing.
 use borrow.Author.Needs.{needs}
-use Rattle.refusal.proofs.First.{first-stop, first-on, first-done}
+use Rattle.tower.proofs.Leaf.{answered}
 use Rattle.tower.proofs.nibble_product.Statement.{statement}
 use Rattle.tower.proofs.nibble_product.Tie as tie
 
 check-both-requires : tie.Need-check-both-requires
 check-both-requires c κs = search needs
 
-enum-told : tie.Need-enum-told
-enum-told c = search needs
-
-enum-told-2 : tie.Need-enum-told-2
-enum-told-2 c = search needs
-
-returns : tie.Need-returns
-returns c = search first-stop
-
 nibble-times-requires : tie.Need-nibble-times-requires
 nibble-times-requires c κs = search needs
 
-returns-2 : tie.Need-returns-2
-returns-2 c = search (first-on, first-done)
+answer-requires : tie.Need-answer-requires
+answer-requires c κs = search needs
+
+returns : tie.Need-returns
+returns c = answered _ _ _ _ _ (c .answer .ensures) (c .before .before .check-both .ensures) (c .before .nibble-times .ensures)
 
 pub nibble-product-spec : {M : Type 1} → statement M
 nibble-product-spec =
-    tie.close
-    (tie.spec
-    check-both-requires
-    enum-told
-    enum-told-2
-    returns
-    nibble-times-requires
-    returns-2)
+    tie.close (tie.spec check-both-requires nibble-times-requires answer-requires returns)

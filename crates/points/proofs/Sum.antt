@@ -6,8 +6,8 @@ use native.Mathlib.Omega.{arith}
 use lib.Bits.{xor-block}
 use lib.Pow.{high, low}
 use Rattle.fips197.specs.Field.{_⊕_}
 use Rattle.tower.specs.Tower.{hi, lo}
-use Rattle.tower.specs.Counts.{sum}
+use Rattle.points.specs.Counts.{sum}
 
 pub sum-ext : (n : ℕ) (f g : ℕ → ℕ) → ((k : ℕ) → k < n → f k ≡ g k) → sum n f ≡ sum n g
 unfolding sum

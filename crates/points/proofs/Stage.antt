@@ -12,13 +12,13 @@ use lib.Pow.{pow-pos}
 use Rattle.fips197.specs.Field.{_⊕_, field}
 use Rattle.fips197.proofs.Below.{eq1, below-or-not, Each, Each.none, Each._▸_}
 use Rattle.fips197.proofs.Xor.{assoc, comm, zero-l, zero-r, sums, lt}
 use Rattle.tower.specs.Tower.{tower, scaledSquare, pairProduct, pairInverse, nibbleProduct, nibbleInverse}
-use Rattle.tower.specs.Counts.{sum, one, share}
-use Rattle.tower.specs.Points.{fourteen, eight}
+use Rattle.points.specs.Counts.{sum, one, share}
+use Rattle.points.specs.Points.{fourteen, eight}
 use Rattle.tower.specs.Claims.{FieldLaws}
 use Rattle.tower.proofs.Level.{pairLaws, nibbleLaws}
-use Rattle.tower.proofs.Sum.{sum-ext, sum-each, sum-xor}
-use Rattle.tower.proofs.Total.{sum3, sum-by}
+use Rattle.points.proofs.Sum.{sum-ext, sum-each, sum-xor}
+use Rattle.points.proofs.Total.{sum3, sum-by}
 
 abbrev pub is : ℕ → ℕ → ℕ
 is x v = one (eqb x v)

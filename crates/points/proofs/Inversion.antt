@@ -4,11 +4,11 @@ use Prim.Native.Nat.{ℕ, _<_}
 use lib.ListN.{getD}
 use Rattle.fips197.specs.Field.{_⊕_}
 use Rattle.fips197.proofs.Xor.{sums}
 use Rattle.tower.specs.Tower.{hi, lo, join, scaledSquare, normOver, inverseOver, exchange, pairInverse, pairProduct, nibbleProduct, nibbleInverse, byteInverse}
-use Rattle.tower.specs.Points.{masked, fourteen, eight, point}
+use Rattle.points.specs.Points.{masked, fourteen, eight, point}
 use Rattle.tower.specs.Claims.{FieldLaws}
 use Rattle.tower.proofs.Split.{hi-xor, lo-xor, hi-lt, lo-lt, join-xor, halves}
 use Rattle.tower.proofs.Level.{left-distributive, pairLaws, nibbleLaws}
 
 module _ (k : ℕ) (times : ℕ → ℕ → ℕ) (one : ℕ) (inv : ℕ → ℕ) (L : FieldLaws k times one inv) where
   distributive′ : (x y z : ℕ) → times (x ⊕ y) z ≡ times x z ⊕ times y z

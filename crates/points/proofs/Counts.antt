@@ -11,16 +11,16 @@ use lib.Seq.{getD-take, getD-drop}
 use Rattle.fips197.specs.Field.{_⊕_}
 use Rattle.fips197.proofs.Below.{Each, Each.none, Each._▸_, each-at, below-or-not}
 use Rattle.fips197.proofs.Xor.{comm}
 use Rattle.tower.specs.Tower.{hi, lo, join, pairProduct, pairInverse, nibbleProduct, nibbleInverse, exchange, inverseOver}
-use Rattle.tower.specs.Points.{masked, fourteen, eight, points, point}
-use Rattle.tower.specs.Counts.{count, counted, pick, share, listed, table}
-use Rattle.tower.specs.Claims.{Demand3}
+use Rattle.points.specs.Points.{masked, fourteen, eight, points, point}
+use Rattle.points.specs.Counts.{count, counted, pick, share, listed, table}
+use Rattle.points.specs.Claims.{Demand3}
 use Rattle.tower.proofs.Split.{hi-xor, lo-xor, hi-lt, lo-lt, join-lt}
 use Rattle.tower.proofs.Level.{pairLaws, nibbleLaws}
-use Rattle.tower.proofs.Inversion.{point14, point28, maskedE, exchange-xor, bareB, bareC}
-use Rattle.tower.proofs.Sum.{sum-ext, sum-xor}
-use Rattle.tower.proofs.Total.{total, all-settings, first, second, alone, third, fourth, fifth, sixth, sum3, exchange-sum}
-use Rattle.tower.proofs.Stage.{is, fourteenCounts, eightCounts, fourteen-counted, eight-counted, nibbleShares, pairShares}
+use Rattle.points.proofs.Inversion.{point14, point28, maskedE, exchange-xor, bareB, bareC}
+use Rattle.points.proofs.Sum.{sum-ext, sum-xor}
+use Rattle.points.proofs.Total.{total, all-settings, first, second, alone, third, fourth, fifth, sixth, sum3, exchange-sum}
+use Rattle.points.proofs.Stage.{is, fourteenCounts, eightCounts, fourteen-counted, eight-counted, nibbleShares, pairShares}
 
 total-ext : (f g : ℕ → ℕ → ℕ → ℕ → ℕ → ℕ) → ((m q r t s : ℕ) → r < 4 → t < 16 → f m q r t s ≡ g m q r t s) → total f ≡ total g
 total-ext f g e =

@@ -2,9 +2,9 @@
 use mathlib.Core.Path.{_≡_, refl, ap, _∙_}
 use Prim.Native.Nat.{ℕ, _+_, _*_, _^_, _<_}
 use native.Mathlib.Omega.{arith}
 use Rattle.tower.specs.Tower.{hi, lo, exchange, tower}
-use Rattle.tower.specs.Counts.{sum, theM, theQ, theR, theT, theS}
-use Rattle.tower.proofs.Sum.{sum-ext, sum-each, sum-scale, sum-split, sum-halves}
+use Rattle.points.specs.Counts.{sum, theM, theQ, theR, theT, theS}
+use Rattle.points.proofs.Sum.{sum-ext, sum-each, sum-scale, sum-split, sum-halves}
 
 abbrev pub total : (ℕ → ℕ → ℕ → ℕ → ℕ → ℕ) → ℕ
 total f = sum 256 (λ m. sum 16 (λ q. sum 4 (λ r. sum 16 (λ t. sum 256 (λ s. f m q r t s)))))

@@ -4,7 +4,7 @@ use mathlib.Core.Bool.{Bool, true, false}
 use mathlib.Core.List.{List, [], _∷_}
 use lib.Dec.{eqb, ltb, leb}
 use Rattle.fips197.specs.Field.{_⊕_}
-use Rattle.tower.specs.Points.{point}
+use Rattle.points.specs.Points.{point}
 
 abbrev pub pick : {A : Type 0} → Bool → A → A → A
 pick true x y = x
