@@ -3,14 +3,13 @@ use Prim.Native.Nat.{ℕ, _-_, _*_, _/_, _≤_, _<_}
 use native.Mathlib.Omega.{arith}
 use mathlib.Core.Path.{_≡_, refl, sym, ap, _∙_}
 use mathlib.Core.List.{List, [], _∷_}
-use mathlib.Core.Bool.{Bool, true, false}
 use Rattle.refusal.specs.declared.Check.{Check}
 use Rattle.refusal.specs.declared.Check.the-variants.{Passed}
 use Rattle.refusal.specs.Refusal.{failed}
 use Rattle.refusal.specs.declared.Outcome.{Outcome}
 use Rattle.refusal.specs.declared.Outcome.the-variants.{Done}
 use Rattle.refusal.specs.Answer.{done, refused, first, either, isNot, noneOf, outcome}
-use Rattle.refusal.proofs.First.{found, passed, passed-is}
+use Rattle.refusal.proofs.First.{found, passed, passed-is, neither}
 use Rattle.strip.specs.Strip.{checkList}
 use Rattle.strip.proofs.Good.{Fit, good}
 use Rattle.cipher.specs.Block.{keySizeIn, checks}
@@ -51,10 +50,6 @@ pub record Admitted (d m w : ℕ) (s : List ℕ) : Type 0 where
   pub mask : m ≡ 16
   pub keys : Sizes w
   pub strip : Fit s (keySizeIn w)
-
-neither : (a b : Bool) → either a b ≡ false → (a ≡ false) × (b ≡ false)
-neither true b e = let t : _≡_ {A = ℕ} 0 1 = cc in absurd (omega arith)
-neither false b e = (refl, e)
 
 pub admitted : (d m w : ℕ) (s : List ℕ) (v : Outcome) → outcome v ≡ first (checks d m w s) refused (done tt) → v ≡ Done → Admitted d m w s
 admitted d m w s v e f =

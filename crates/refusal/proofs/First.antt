@@ -62,6 +62,11 @@ either-first a b k e f = ap (λ (t : Bool). either t b) (sym (ap failed f) ∙ e
 pub either-second : (a b : Bool) (k j : Check) → failed k ≡ a → k ≡ Passed → failed j ≡ b → failed j ≡ either a b
 either-second a b k j e p h = h ∙ ap (λ (t : Bool). either t b) (sym (ap failed p) ∙ e)
 
+-- where not one of two applies, neither does
+pub neither : (a b : Bool) → either a b ≡ false → (a ≡ false) × (b ≡ false)
+neither true b e = let t : _≡_ {A = ℕ} 0 1 = cc in absurd (omega arith)
+neither false b e = (refl, e)
+
 -- An answer passed on from a call below with the same checks. `tell` is what it says: the call's own refusal, or done.
 module _ {X A : Type 0} (deny : Refusal → X) (tell : X → Answer A) (tells : (r : Refusal) → tell (deny r) ≡ refused r) where
   pub refusal-passed : (checks : List (ℕ × Bool)) (give give′ x : X) (r : Refusal) (p : A) → tell x ≡ refused r → tell give ≡ done p

@@ -12,7 +12,7 @@ use Rattle.refusal.specs.declared.Check.{Check}
 use Rattle.refusal.specs.declared.Check.the-variants.{Passed, Failed}
 use Rattle.refusal.specs.Refusal.{number, refusal, failed}
 use Rattle.refusal.specs.Answer.{Answer, done, refused, answerNumber, first, above, either, isNot}
-use Rattle.refusal.proofs.First.{first-stop, first-on, all-passed, one-failed, first-part, passed-is}
+use Rattle.refusal.proofs.First.{first-stop, first-on, all-passed, one-failed, first-part, passed-is, neither}
 use Rattle.points.specs.Points.{recordPoints}
 use Rattle.inversion.specs.declared.Masked.{Masked}
 use Rattle.inversion.specs.declared.Masked.the-variants.{Byte, Refused}
@@ -101,10 +101,6 @@ module _ {L : Type 0} (n d m r : ℕ) (rest : List (ℕ × Bool)) (lent : L) (gi
     front-on x q g = numbered-on 13 (noDirection n) k ((6, notLent d m r) ∷ rest) lent give e x p (numbered-on 6 (notLent d m r) j rest lent give h x q g)
 
 -- what a check of the loans that passed has shown
-neither : (a b : Bool) → either a b ≡ false → (a ≡ false) × (b ≡ false)
-neither true b e = let t : _≡_ {A = ℕ} 0 1 = cc in absurd (omega arith)
-neither false b e = (refl, e)
-
 lent-so : (d m r : ℕ) (j : Check) → failed j ≡ notLent d m r → j ≡ Passed → (d ≡ 1) × ((m ≡ 1) × (r ≡ 3))
 unfolding notLent
 lent-so d m r j h q =
