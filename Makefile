@@ -1,12 +1,27 @@
-# make test: what the gate runs.   make run: proves and runs the program that calls the field and the inversion at their edges.
-.PHONY: test run clean
+# make run: the known answers and the C example.   make test: what the gate runs.   make replay: the whole comparison with the second program.
+# make bench: what a call costs, in executed instructions.   make trace: that every run of a call takes the same way.
+.PHONY: run test replay bench trace clean
+
+run:
+	@rt check known_answers salcivorn
+	@tests/build
+	@target/bin/known_answers crates/known_answers/data/vectors
+	@bash -c '. tests/tools.sh && $$RUN build/example'
 
 test:
 	@tests/gate
 
-run:
-	@rt check edges
-	@target/bin/edges
+replay:
+	@tests/build
+	@tests/host all
+
+bench:
+	@tests/build
+	@bash -c '. tests/tools.sh && emulated count bench'
+
+trace:
+	@tests/build
+	@bash -c '. tests/tools.sh && emulated trace trace 1000'
 
 clean:
-	rm -rf target
+	rm -rf target build
