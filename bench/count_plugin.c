@@ -5,7 +5,6 @@
 #include "page.h"
 #include "qemu_plugin.h"
 
-#include <string.h>
 
 QEMU_PLUGIN_EXPORT int qemu_plugin_version = 1;
 
@@ -24,9 +23,7 @@ static void translated(qemu_plugin_id_t id, struct qemu_plugin_tb *code)
 QEMU_PLUGIN_EXPORT int qemu_plugin_install(qemu_plugin_id_t id, const qemu_info_t *info, int count, char **words)
 {
     (void)info;
-    if (count != 1 || strncmp(words[0], "page=", 5) != 0)
-        return 1;
-    page = page_map(words[0] + 5, sizeof *page, 1);
+    page = page_named(count, words, sizeof *page);
     if (page == NULL)
         return 1;
     qemu_plugin_register_vcpu_tb_trans_cb(id, translated);

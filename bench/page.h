@@ -6,6 +6,7 @@
 #include <fcntl.h>
 #include <stddef.h>
 #include <stdint.h>
+#include <string.h>
 #include <sys/mman.h>
 #include <unistd.h>
 
@@ -36,6 +37,14 @@ static inline void *page_map(const char *path, size_t size, int make_new)
     page = mmap(NULL, size, PROT_READ | PROT_WRITE, MAP_SHARED, file, 0);
     close(file);
     return page == MAP_FAILED ? NULL : page;
+}
+
+/* The page that a plugin's one word names, as page=PATH. */
+static inline void *page_named(int count, char **words, size_t size)
+{
+    if (count != 1 || strncmp(words[0], "page=", 5) != 0)
+        return NULL;
+    return page_map(words[0] + 5, size, 1);
 }
 
 #endif
