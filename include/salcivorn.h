@@ -1,7 +1,7 @@
 /* Masked AES (FIPS 197): the entries of libsalcivorn.a.
  *
  * A masked byte is two bytes that travel apart: the data, which is the secret plus its mask
- * (exclusive or), and the mask. No entry puts them together.
+ * (exclusive or), and the mask. No entry takes the mask off.
  *
  * All entries keep these rules:
  * - A buffer is lent for the length of the call, as a pointer and a length in bytes.

@@ -13,8 +13,8 @@ pub fn sbox(direction: u32, data: &mut [u8], mask: &mut [u8], record: &[u8], poi
     let number = first(&[
         (way.is_none(), DIRECTION),
         (data.len() != 1 || mask.len() != 1 || record.len() != strip::RECORD, PART_LENGTH),
-        (points.as_ref().is_some_and(|buffer| buffer.len() != points::COUNT), POINTS_LENGTH),
-        (record.get(2).is_some_and(|&third| third > 3), RECORD_BYTE),
+        (points.as_ref().map_or(false, |buffer| buffer.len() != points::COUNT), POINTS_LENGTH),
+        (record.get(2).map_or(false, |&third| third > 3), RECORD_BYTE),
     ]);
     if let (DONE, Some(way)) = (number, way) {
         let substituted = masked_sbox(way, data[0], mask[0], &Record::read(record));
