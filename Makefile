@@ -1,6 +1,6 @@
 # make run: the known answers and the C example.   make test: what the gate runs.   make replay: the whole comparison with the second program.
-# make bench: what a call costs, in executed instructions.   make trace: that every run of a call takes the same way.
-.PHONY: run test replay bench trace clean
+# make bench: what a call costs, in executed instructions.   make trace: that every run of a call takes the same way.   make listing: that no register tells the secret.
+.PHONY: run test replay bench trace listing clean
 
 run:
 	@rt check known_answers salcivorn
@@ -22,6 +22,10 @@ bench:
 trace:
 	@tests/build
 	@bash -c '. tests/tools.sh && emulated trace trace 1000'
+
+listing:
+	@tests/build
+	@bash -c '. tests/tools.sh && qemu-x86_64 -cpu qemu64 build/listing all'
 
 clean:
 	rm -rf target build

@@ -1,0 +1,136 @@
+/* The listing test: does any register that the compiled functions write depend on the secret? Each
+ * call runs in single steps, in pairs of two secrets under fresh random masks (watch.h says how a
+ * pair is compared). Cases that are known to be bad run in the same way and must be found.
+ *
+ * usage: listing [slice|all] [SEED] [WORD], with WORD only the cases that have it in their name */
+#include "listing_table.h"
+#include "symbols.h"
+#include "tally.h"
+#include "watch.h"
+
+#include <math.h>
+#include <stdlib.h>
+#include <string.h>
+
+/* The chance of a false alarm in a whole run is at most the number of comparisons times
+ * 2 exp(-7*7/2) = 4.6e-11; the run fails if there are so many that this reaches one in a thousand. */
+static const double accepted_chance = 0.001;
+
+/* Pairs of calls for each pair of secrets; 7*7 that all agree reach the threshold, so no number may
+ * be below 50. In a block one S-box call in EVERY is stepped through; the S-box cases step through all. */
+struct amounts {
+    const char *word;
+    unsigned long sbox_pairs, block_pairs, bad_pairs;
+    unsigned every;
+};
+static const struct amounts all_amounts[] = {{"slice", 150, 80, 200, 32}, {"all", 3000, 300, 200, 8}};
+
+static struct tally tally;
+static uint64_t seed = 1;
+static unsigned long runs;
+
+/* No two calls have the same masks. Runs 0 and 1 of calls_fill are not random, so the numbers begin above. */
+static unsigned long next_run(void)
+{
+    return (seed << 32) + 2 + runs++;
+}
+
+static uint32_t make_call(const struct listing_case *listing, const uint8_t *secrets, int which)
+{
+    struct stepped_call stepped;
+
+    listing_fill(listing, secrets[which], next_run(), &stepped);
+    watch_secret(which);
+    return step_make(&stepped);
+}
+
+/* Both calls of a pair step through the same S-box calls. Gives the number of refused calls. */
+static unsigned long make_pairs(const struct listing_case *listing, const uint8_t *secrets, unsigned long pairs,
+                                unsigned every)
+{
+    uint64_t substitute = symbols_find("sbox::substitute");
+    unsigned long refused = 0;
+
+    watch_reset();
+    for (unsigned long pair = 0; pair < pairs; pair++) {
+        for (int which = 0; which < 2; which++) {
+            step_thin(substitute, every, (seed << 32) + pair);
+            refused += make_call(listing, secrets, which) != SALCIVORN_DONE;
+        }
+        watch_end_pair();
+    }
+    return refused;
+}
+
+static unsigned long pairs_of(const struct listing_case *listing, const struct amounts *amounts)
+{
+    if (listing->expected == FOUND)
+        return amounts->bad_pairs;
+    return listing->call->kind == BLOCK ? amounts->block_pairs : amounts->sbox_pairs;
+}
+
+/* Steps, and S-box calls that are passed over, must not change what a call does. */
+static void test_same(const struct listing_case *listing, unsigned every)
+{
+    watch_reset();
+    step_thin(symbols_find("sbox::substitute"), every, seed);
+    tally_check(&tally, listing_same(listing, listing->secrets[0][0], next_run()), "same bytes in steps");
+}
+
+static void run_case(const struct listing_case *listing, const struct amounts *amounts)
+{
+    unsigned every = listing->call->kind == BLOCK ? amounts->every : 1;
+    uint64_t compared = table_comparisons();
+    unsigned long refused = 0, depend;
+
+    test_same(listing, every);
+    table_begin();
+    for (unsigned i = 0; i < listing->secret_pairs; i++) {
+        refused += make_pairs(listing, listing->secrets[i], pairs_of(listing, amounts), every);
+        table_add(listing, listing->secrets[i]);
+    }
+    depend = table_print(listing);
+    tally_check(&tally, refused == 0 && table_comparisons() > compared, "calls done and registers seen");
+    tally_check(&tally, (depend > 0) == (listing->expected == FOUND), listing->name);
+}
+
+static void report_chance(void)
+{
+    double chance = (double)table_comparisons() * 2 * exp(-table_threshold * table_threshold / 2);
+
+    printf("%llu comparisons, threshold %.1f: chance of a false alarm at most %.6f\n",
+           (unsigned long long)table_comparisons(), table_threshold, chance);
+    tally_check(&tally, chance < accepted_chance, "chance of a false alarm");
+}
+
+/* Known-bad cases are always run, so that every run can fail. */
+static int run_all(const struct amounts *amounts, const char *word)
+{
+    listing_prepare();
+    step_prepare(watch_observe);
+    printf("pairs of calls for each pair of secrets: S-box %lu, block %lu with one S-box in %u, known bad %lu\n\n",
+           amounts->sbox_pairs, amounts->block_pairs, amounts->every, amounts->bad_pairs);
+    printf("%-34s%-34s%13s%11s%8s%12s%10s\n", "case", "function", "instructions", "registers", "depend",
+           "round keys", "greatest");
+    for (size_t i = 0; i < LISTING_CASES; i++)
+        if (listing_cases[i].expected == FOUND || strstr(listing_cases[i].name, word) != NULL)
+            run_case(&listing_cases[i], amounts);
+    printf("\n");
+    if (*word == '\0')
+        tally_check(&tally, table_reached(), "functions reached");
+    report_chance();
+    return tally_report(&tally);
+}
+
+int main(int count, char **words)
+{
+    const char *amount = count > 1 ? words[1] : "slice";
+
+    if (count > 2)
+        seed = strtoull(words[2], NULL, 10);
+    for (size_t i = 0; i < sizeof all_amounts / sizeof *all_amounts; i++)
+        if (strcmp(amount, all_amounts[i].word) == 0 && symbols_read() && symbols_find("sbox::substitute") != 0)
+            return run_all(&all_amounts[i], count > 3 ? words[3] : "");
+    fprintf(stderr, "usage: listing [slice|all] [SEED] [WORD], in a program with its symbol table\n");
+    return 1;
+}
