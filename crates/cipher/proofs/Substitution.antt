@@ -10,7 +10,7 @@ use Rattle.fips197.proofs.State.{length-state}
 use Rattle.fips197.proofs.Undo.{cell-of}
 use Rattle.refusal.specs.declared.Refusal.{Refusal}
 use Rattle.refusal.specs.Answer.{Answer, done, refused, first, above}
-use Rattle.refusal.proofs.First.{answer-passed}
+use Rattle.refusal.proofs.First.{all-passed}
 use Rattle.aes.proofs.Front.{front, front-none, front-step, front-here, front-done}
 use Rattle.tower.specs.declared.Record.{Record}
 use Rattle.inversion.specs.declared.Masked.{Masked}
@@ -25,15 +25,9 @@ use Rattle.cipher.proofs.Records.{third}
 
 -- ---- one byte
 
-abbrev given : Answer (ℕ × ℕ) → ℕ × ℕ
-given (done p) = p
-given (refused r) = (0, 0)
-
 module _ (dir : Direction) (d m : ℕ) (ρ : Record) (v : Masked) (e : byteAndMask v ≡ sbox.substituted dir d m ρ) where
-  served : (x y : ℕ) → v ≡ Byte x y → _≡_ {A = Answer (ℕ × ℕ)} (done (x, y)) (done (newByte dir d m ρ, newMask dir ρ))
-  served x y f =
-      sym (ap byteAndMask f)
-      ∙ answer-passed refused (λ x. x) (λ r. refl) ((2, above 3 (ρ .r)) ∷ []) (done (newByte dir d m ρ, newMask dir ρ)) (done (0, 0)) (byteAndMask v) (x, y) (ap byteAndMask f) e .0
+  served : (x y : ℕ) → v ≡ Byte x y → _≡_ {A = ℕ × ℕ} (x, y) (newByte dir d m ρ, newMask dir ρ)
+  served x y f = all-passed {X = Answer (ℕ × ℕ)} refused (done (0, 0)) (newByte dir d m ρ, newMask dir ρ) ((2, above 3 (ρ .r)) ∷ []) (byteAndMask v) (x, y) e (ap byteAndMask f) .1
 
   refused-not : (r : Refusal) → v ≡ Refused r → ρ .r ≤ 3 → ⊥
   unfolding first
@@ -93,8 +87,8 @@ module _ (dir : Direction) (s : List ℕ) (n : ℕ) (d m : List ℕ) where
         let here-d : getD D i 0 ≡ getD d i 0 = front-here newData d D i (went .isD) (data-long ∙ sym hd) (omega arith) in
         let here-m : getD M i 0 ≡ getD m i 0 = front-here (newMasks dir s n) m M i (went .isM) (mask-long ∙ sym hm) (omega arith) in
         let both = served dir (getD D i 0) (getD M i 0) ρ v e x y f in
-        let is-x : x ≡ newByte dir (getD D i 0) (getD M i 0) ρ = ap (λ (a : Answer (ℕ × ℕ)). given a .0) both in
-        let is-y : y ≡ newMask dir ρ = ap (λ (a : Answer (ℕ × ℕ)). given a .1) both in
+        let is-x : x ≡ newByte dir (getD D i 0) (getD M i 0) ρ = ap (λ (a : ℕ × ℕ). a .0) both in
+        let is-y : y ≡ newMask dir ρ = ap (λ (a : ℕ × ℕ). a .1) both in
         let new-x : x ≡ getD newData i 0 = is-x ∙ rw (here-d, here-m, r) (sym (data-at i h)) in
         let new-y : y ≡ getD (newMasks dir s n) i 0 = is-y ∙ rw r (sym (mask-at i h)) in
         record {

@@ -2,12 +2,12 @@
 use mathlib.Core.Path.{_≡_, refl, sym, ap, _∙_}
 use mathlib.Core.List.{List, [], _∷_}
 use mathlib.Core.Bool.{false}
-use Prim.Native.Nat.{ℕ, _+_, _-_, _*_, _/_, _≤_, _<_}
+use Prim.Native.Nat.{ℕ, _+_, _-_, _*_, _/_, _<_}
 use native.Mathlib.Omega.{arith}
-use lib.ListN.{length, drop, length-take}
+use lib.ListN.{length}
 use Rattle.fips197.specs.Cipher.{_⊞_, state, shiftRows, roundKey, addRoundKey, cipher, invSubBytes, invCipher, keyExpansion}
 use Rattle.fips197.proofs.State.{plus-off, length-plus, length-state}
-use Rattle.fips197.proofs.Undo.{bytes-plus}
+use Rattle.fips197.proofs.Undo.{bytes-plus, key-short}
 use Rattle.fips197.proofs.Words.{expanded-length, expansion-bytes}
 use Rattle.fips197.proofs.Claims.{undone}
 use Rattle.refusal.specs.declared.Check.the-variants.{Passed}
@@ -72,10 +72,6 @@ bare-is Encrypt key b e = rw (sized key e .rounds) refl
 bare-is Decrypt key b e = rw (sized key e .rounds) refl
 
 -- ---- the lengths, so that the mask can be taken off
-
-key-short : (w : List ℕ) (i : ℕ) → length (roundKey w i) ≤ 16
-unfolding roundKey
-key-short w i = omega (arith, length-take 16 (drop (16 * i) w))
 
 keyed-long : (f : ℕ → ℕ → ℕ) (w : List ℕ) (i : ℕ) → length (addRoundKey (state f) w i) ≡ 16
 unfolding addRoundKey

@@ -166,7 +166,7 @@ mix-undone s h = same _ (cell s) (λ r c hr hc. four (λ r. at r c ≡ cell s r 
     turn3 : (c : ℕ) → c < 4 → at 3 c ≡ cell s 3 c
     turn3 c g = cc (mixed s 0 c (lit< tt) g, mixed s 1 c (lit< tt) g, mixed s 2 c (lit< tt) g, mixed s 3 c (lit< tt) g, column-undone (cell s 3 c) (cell s 0 c) (cell s 1 c) (cell s 2 c) (x 3 c) (x 0 c) (x 1 c) (x 2 c))
 
-key-short : (w : List ℕ) (i : ℕ) → length (roundKey w i) ≤ 16
+pub key-short : (w : List ℕ) (i : ℕ) → length (roundKey w i) ≤ 16
 unfolding roundKey
 key-short w i = omega (arith, length-take 16 (drop (16 * i) w))
 
