@@ -5,8 +5,7 @@
 run:
 	@rt check known_answers salcivorn
 	@tests/build
-	@target/bin/known_answers crates/known_answers/data/vectors
-	@bash -c '. tests/tools.sh && $$RUN build/example'
+	@bash -c '. tests/tools.sh && $$RUN target/bin/known_answers crates/known_answers/data/vectors && $$RUN build/example'
 
 test:
 	@tests/gate
@@ -25,7 +24,7 @@ trace:
 
 listing:
 	@tests/build
-	@bash -c '. tests/tools.sh && qemu-x86_64 -cpu qemu64 build/listing all'
+	@bash -c '. tests/tools.sh && $$EMULATOR build/listing all'
 
 clean:
 	rm -rf target build

@@ -1,4 +1,4 @@
-# What the host programs are built and run with, found out once: sets CC and RUN. To be sourced.
+# What the host programs are built and run with, found out once: sets CC, RUN and EMULATOR. To be sourced.
 # The archive is x86-64 code; on another machine a cross compiler builds for it and an emulator runs it. Instructions are counted in the emulator everywhere.
 
 # need COMMAND PACKAGE: the command is there, or its Debian package is installed where that is allowed.
@@ -22,7 +22,10 @@ need qemu-x86_64 qemu-user
 CC="$CC -std=c11 -Wall -Wextra -Werror -O2 -Iinclude -Ihost -Ibench"
 PLUGIN_CC="gcc -std=c11 -Wall -Wextra -Werror -O2 -Ibench -shared -fPIC"
 
-# emulated PLUGIN PROGRAM WORDS..: a program under one of the emulator's plugins, through the file that both map. The processor is named, so that the C library chooses the same functions everywhere.
+# The processor is named, so that the C library chooses the same functions everywhere.
+EMULATOR="qemu-x86_64 -cpu qemu64"
+
+# emulated PLUGIN PROGRAM WORDS..: a program under one of the emulator's plugins, through the file that both map.
 emulated() {
-    qemu-x86_64 -cpu qemu64 -plugin "build/$1_plugin.so,page=build/$1.page" "build/$2" "build/$1.page" "${@:3}"
+    $EMULATOR -plugin "build/$1_plugin.so,page=build/$1.page" "build/$2" "build/$1.page" "${@:3}"
 }
