@@ -10,7 +10,7 @@ use Rattle.refusal.specs.declared.Outcome.{Outcome}
 use Rattle.refusal.specs.declared.Outcome.the-variants.{Done}
 use Rattle.refusal.specs.Answer.{done, refused, first, either, isNot, noneOf, outcome}
 use Rattle.refusal.proofs.First.{found, passed, passed-is, neither}
-use Rattle.strip.specs.Strip.{checkList}
+use Rattle.strip.specs.Strip.{blockChecks}
 use Rattle.strip.proofs.Good.{Fit, good}
 use Rattle.cipher.specs.Block.{keySizeIn, checks}
 
@@ -54,7 +54,7 @@ pub record Admitted (d m w : ℕ) (s : List ℕ) : Type 0 where
 pub admitted : (d m w : ℕ) (s : List ℕ) (v : Outcome) → outcome v ≡ first (checks d m w s) refused (done tt) → v ≡ Done → Admitted d m w s
 admitted d m w s v e f =
     let p6 = passed 6 (either (isNot 16 d) (isNot 16 m)) _ tt (sym e ∙ ap outcome f) in
-    let p5 = passed 5 (noneOf (176 ∷ 208 ∷ 240 ∷ []) w) (checkList s (keySizeIn w)) tt (p6 .1) in
+    let p5 = passed 5 (noneOf (176 ∷ 208 ∷ 240 ∷ []) w) (blockChecks s (keySizeIn w)) tt (p6 .1) in
     let both = neither (isNot 16 d) (isNot 16 m) (p6 .0) in
     record {
       block = passed-is 16 d Passed (sym (both .0)) refl;

@@ -60,6 +60,8 @@ fn number(r: Refusal) -> u8 {
         Refusal::Buffer(n) => n,
         Refusal::Strip(n) => n,
         Refusal::Direction(n) => n,
+        Refusal::Pool(n) => n,
+        Refusal::Message(n) => n,
     }
 }
 

@@ -1,7 +1,7 @@
 -- What a check's answer makes of `first`, for the proofs of calls: it stops there, or goes on to the next. Assumes nothing.
 use Prim.Native.Nat.{ℕ}
 use mathlib.Core.Path.{_≡_, refl, sym, ap, _∙_}
-use mathlib.Core.List.{List, [], _∷_}
+use mathlib.Core.List.{List, [], _∷_, _++_}
 use mathlib.Core.Bool.{Bool, true, false, not}
 use native.Mathlib.Omega.{arith}
 use lib.Dec.{eqb}
@@ -10,7 +10,7 @@ use Rattle.refusal.specs.declared.Refusal.{Refusal}
 use Rattle.refusal.specs.declared.Check.{Check}
 use Rattle.refusal.specs.declared.Check.the-variants.{Passed, Failed}
 use Rattle.refusal.specs.Refusal.{refusal, failed}
-use Rattle.refusal.specs.Answer.{Answer, done, refused, first, either, both, isNot, noneOf}
+use Rattle.refusal.specs.Answer.{Answer, done, refused, answerNumber, numbered, first, either, both, isNot, noneOf}
 
 both-on : (b : Bool) → b ≡ both b true
 both-on true = refl
@@ -24,6 +24,16 @@ module _ {X : Type 0} (n : ℕ) (b : Bool) (checks : List (ℕ × Bool)) (deny :
   pub first-on : failed k ≡ b → k ≡ Passed → x ≡ first checks deny give → x ≡ first ((n, b) ∷ checks) deny give
   unfolding first
   first-on e p h = h ∙ ap (λ (t : Bool). first ((n, t) ∷ checks) deny give) (sym (ap failed p) ∙ e)
+
+-- the same where it is known whether the check applies
+module _ {X : Type 0} (n : ℕ) (b : Bool) (checks : List (ℕ × Bool)) (deny : Refusal → X) (give : X) where
+  pub first-now : true ≡ b → deny (refusal n) ≡ first ((n, b) ∷ checks) deny give
+  unfolding first
+  first-now e = ap (λ (t : Bool). first ((n, t) ∷ checks) deny give) e
+
+  pub first-skip : (x : X) → false ≡ b → x ≡ first checks deny give → x ≡ first ((n, b) ∷ checks) deny give
+  unfolding first
+  first-skip x e h = h ∙ ap (λ (t : Bool). first ((n, t) ∷ checks) deny give) e
 
 pub first-done : {X : Type 0} (deny : Refusal → X) (give x : X) → x ≡ give → x ≡ first [] deny give
 unfolding first
@@ -59,8 +69,8 @@ found a b c n k e p f g h =
 pub either-first : (a b : Bool) (k : Check) → failed k ≡ a → k ≡ Failed → true ≡ either a b
 either-first a b k e f = ap (λ (t : Bool). either t b) (sym (ap failed f) ∙ e)
 
-pub either-second : (a b : Bool) (k j : Check) → failed k ≡ a → k ≡ Passed → failed j ≡ b → failed j ≡ either a b
-either-second a b k j e p h = h ∙ ap (λ (t : Bool). either t b) (sym (ap failed p) ∙ e)
+pub either-second : (a b : Bool) (k : Check) (x : Bool) → failed k ≡ a → k ≡ Passed → x ≡ b → x ≡ either a b
+either-second a b k x e p h = h ∙ ap (λ (t : Bool). either t b) (sym (ap failed p) ∙ e)
 
 -- where not one of two applies, neither does
 pub neither : (a b : Bool) → either a b ≡ false → (a ≡ false) × (b ≡ false)
@@ -99,6 +109,20 @@ module _ {X A : Type 0} (deny : Refusal → X) (give : X) (y : A) where
   one-failed ((n, true) ∷ checks) x r e f = let g : refusal n ≡ r = cc in ap deny (sym g)
   one-failed ((n, false) ∷ checks) x r e f = one-failed checks x r e f
 
+-- checks in two parts, the first already answered: its refusal stands, or the second part decides
+module _ {X A : Type 0} (rest : List (ℕ × Bool)) (deny : Refusal → X) (give : X) (x : Answer A) (y : A) where
+  pub front-failed : (front : List (ℕ × Bool)) (r : Refusal) → x ≡ first front refused (done y) → x ≡ refused r → deny r ≡ first (front ++ rest) deny give
+  unfolding first
+  front-failed [] r e f = let z : _≡_ {A = ℕ} 0 1 = cc in absurd (omega arith)
+  front-failed ((n, true) ∷ front) r e f = let g : refusal n ≡ r = cc in ap deny (sym g)
+  front-failed ((n, false) ∷ front) r e f = front-failed front r e f
+
+  pub front-passed : (front : List (ℕ × Bool)) (v : X) (z : A) → x ≡ first front refused (done y) → x ≡ done z → v ≡ first rest deny give → v ≡ first (front ++ rest) deny give
+  unfolding first
+  front-passed [] v z e f h = h
+  front-passed ((n, true) ∷ front) v z e f h = let t : _≡_ {A = ℕ} 0 1 = cc in absurd (omega arith)
+  front-passed ((n, false) ∷ front) v z e f h = front-passed front v z e f h
+
 -- where none is refused, no check of the list applies
 pub passed : (n : ℕ) (b : Bool) (checks : List (ℕ × Bool)) (x : Unit {0}) → first ((n, b) ∷ checks) refused (done x) ≡ done x
     → (b ≡ false) × (first checks refused (done x) ≡ done x)
@@ -106,9 +130,21 @@ unfolding first
 passed n true checks x e = let y : _≡_ {A = ℕ} 0 1 = cc in absurd (omega arith)
 passed n false checks x e = (refl, e)
 
+-- and of two lists of checks, none of either
+pub parts-passed : (front rest : List (ℕ × Bool)) (x : Unit {0}) → first (front ++ rest) refused (done x) ≡ done x
+    → (first front refused (done x) ≡ done x) × (first rest refused (done x) ≡ done x)
+unfolding first
+parts-passed [] rest x e = (refl, e)
+parts-passed ((n, true) ∷ front) rest x e = let y : _≡_ {A = ℕ} 0 1 = cc in absurd (omega arith)
+parts-passed ((n, false) ∷ front) rest x e = parts-passed front rest x e
+
 -- a part of what is given, or of what a refusal gives
 pub first-part : {X Y : Type 0} (part : X → Y) (checks : List (ℕ × Bool)) (deny : Refusal → X) (give : X) → part (first checks deny give) ≡ first checks (λ r. part (deny r)) (part give)
 unfolding first
 first-part part [] deny give = refl
 first-part part ((n, true) ∷ checks) deny give = refl
 first-part part ((n, false) ∷ checks) deny give = first-part part checks deny give
+
+-- an answer from below, as its number
+pub numbered-as : {L : Type 0} (a : Answer (Unit {0})) (num : ℕ) (after : L) (promised : Answer (Unit {0}) × L) → num ≡ answerNumber a → (a, after) ≡ promised → (num, after) ≡ numbered promised
+numbered-as a num after promised q g = ap (λ (x : ℕ). (x, after)) q ∙ ap numbered g

@@ -22,11 +22,19 @@ abbrev pub outcome : Outcome → Answer (Unit {0})
 outcome Done = done tt
 outcome (Refused r) = refused r
 
+-- an answer over C: its number, and the lent parts
+abbrev pub numbered : {L : Type 0} → Answer (Unit {0}) × L → ℕ × L
+numbered (a, lent) = (answerNumber a, lent)
+
 -- "The first that applies is given": the refusal numbers in their order, each with whether it applies; what a refusal gives; and what is given where none applies
 unfoldable pub first : {X : Type 0} → List (ℕ × Bool) → (Refusal → X) → X → X
 first [] deny give = give
 first ((n, true) ∷ checks) deny give = deny (refusal n)
 first ((n, false) ∷ checks) deny give = first checks deny give
+
+-- whether no check of a list applies
+unfoldable pub passes : List (ℕ × Bool) → Bool
+passes checks = first checks (λ r. false) true
 
 -- what checks ask: whether a number is above the most allowed, whether one of two things applies or both do, whether a number is not the one wanted, or none of those wanted
 abbrev pub above : ℕ → ℕ → Bool
@@ -39,6 +47,11 @@ either false b = b
 abbrev pub both : Bool → Bool → Bool
 both true b = b
 both false b = false
+
+-- the one or the other
+abbrev pub choose : {A : Type 0} → Bool → A → A → A
+choose true a b = a
+choose false a b = b
 
 abbrev pub isNot : ℕ → ℕ → Bool
 isNot wanted x = not (eqb x wanted)

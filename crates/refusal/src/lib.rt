@@ -1,8 +1,8 @@
 // Refusals: the kind of thing refused together with its number, the answers of a check and of a call without a value, and the checks that every crate shares.
 ghost use mathlib.Core.Path.{_≡_};
 ghost use mathlib.Core.List.{[], _∷_};
-ghost use Rattle.refusal.specs.Refusal.{failed};
-ghost use Rattle.refusal.specs.Answer.{above, either, isNot, noneOf};
+ghost use Rattle.refusal.specs.Refusal.{number, failed};
+ghost use Rattle.refusal.specs.Answer.{above, either, isNot, noneOf, answerNumber, outcome};
 
 pub enum Refusal {
     Operand(u8),
@@ -10,6 +10,8 @@ pub enum Refusal {
     Buffer(u8),
     Strip(u8),
     Direction(u8),
+    Pool(u8),
+    Message(u8),
 }
 
 pub enum Check {
@@ -66,4 +68,34 @@ pub fn check_lengths(length: usize, one: usize, two: usize, three: usize) -> Che
         return Check::Passed;
     };
     check_length(length, three)
+}
+
+fn wide(x: u8) -> u32
+    ensures { λ r. ⌜ r ≡ x ⌝ }
+{
+    x as u32
+}
+
+// The kind is for callers inside the language; a host gets the number.
+pub fn refusal_number(refusal: Refusal) -> u32
+    ensures { λ n. ⌜ n ≡ number refusal ⌝ }
+{
+    match refusal {
+        Refusal::Operand(n) => wide(n),
+        Refusal::Key(n) => wide(n),
+        Refusal::Buffer(n) => wide(n),
+        Refusal::Strip(n) => wide(n),
+        Refusal::Direction(n) => wide(n),
+        Refusal::Pool(n) => wide(n),
+        Refusal::Message(n) => wide(n),
+    }
+}
+
+pub fn outcome_number(answer: Outcome) -> u32
+    ensures { λ n. ⌜ n ≡ answerNumber (outcome answer) ⌝ }
+{
+    match answer {
+        Outcome::Done => 0,
+        Outcome::Refused(refusal) => refusal_number(refusal),
+    }
 }

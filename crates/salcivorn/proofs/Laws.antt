@@ -11,7 +11,7 @@ use Rattle.refusal.specs.declared.Refusal.{Refusal}
 use Rattle.refusal.specs.declared.Check.{Check}
 use Rattle.refusal.specs.declared.Check.the-variants.{Passed, Failed}
 use Rattle.refusal.specs.Refusal.{number, refusal, failed}
-use Rattle.refusal.specs.Answer.{Answer, done, refused, answerNumber, first, above, either, isNot}
+use Rattle.refusal.specs.Answer.{Answer, done, refused, answerNumber, numbered, first, above, either, isNot}
 use Rattle.refusal.proofs.First.{first-stop, first-on, all-passed, one-failed, first-part, passed-is, neither}
 use Rattle.points.specs.Points.{recordPoints}
 use Rattle.inversion.specs.declared.Masked.{Masked}
@@ -21,7 +21,7 @@ use Rattle.sbox.specs.declared.Direction.{Direction}
 use Rattle.sbox.specs.declared.Direction.the-variants.{Encrypt, Decrypt}
 use Rattle.sbox.specs.Sbox.{enterData, enterMask, newByte, newMask, recordOf, substituted, substitutedWithPoints}
 use Rattle.cipher.specs.Block.{blockOf}
-use Rattle.salcivorn.specs.Entries.{numbered, noDirection, way, notLent, sboxOf, sboxPointsOf, directedBlockOf}
+use Rattle.salcivorn.specs.Entries.{noDirection, way, notLent, sboxOf, sboxPointsOf, directedBlockOf}
 
 -- ---- the direction
 
@@ -65,9 +65,6 @@ pub block-given : (n : ℕ) (k : Check) (d m w s : List ℕ) (dir : Direction) (
 unfolding directedBlockOf first
 block-given n k d m w s dir a num after e p h q g =
     numbered-on 13 (noDirection n) k [] (d, (m, s)) (blockOf (way n) d m w s) e (num, after) p (ap (λ (x : ℕ). (x, after)) q ∙ ap numbered (g ∙ ap (λ (x : Direction). blockOf x d m w s) h))
-
-pub numbered-as : {L : Type 0} (a : Answer (Unit {0})) (num : ℕ) (after : L) (promised : Answer (Unit {0}) × L) → num ≡ answerNumber a → (a, after) ≡ promised → (num, after) ≡ numbered promised
-numbered-as a num after promised q g = ap (λ (x : ℕ). (x, after)) q ∙ ap numbered g
 
 -- ---- the S-box: what is left after 13 and 6
 

@@ -3,16 +3,13 @@ use Prim.Native.Nat.{ℕ, zero, suc}
 use mathlib.Core.List.{List, [], _∷_}
 use mathlib.Core.Bool.{Bool}
 use lib.ListN.{length, getD}
-use Rattle.refusal.specs.Answer.{Answer, done, refused, answerNumber, first, above, either, isNot, noneOf}
+use Rattle.refusal.specs.Answer.{done, refused, numbered, first, above, either, isNot, noneOf}
 use Rattle.points.specs.Points.{recordPoints}
 use Rattle.sbox.specs.declared.Direction.{Direction}
 use Rattle.sbox.specs.declared.Direction.the-variants.{Encrypt, Decrypt}
 use Rattle.sbox.specs.Sbox.{enterData, enterMask, newByte, newMask, recordOf}
 use Rattle.expansion.specs.Expansion.{expansionOf}
 use Rattle.cipher.specs.Block.{blockOf}
-
-abbrev pub numbered : {L : Type 0} → Answer (Unit {0}) × L → ℕ × L
-numbered (a, lent) = (answerNumber a, lent)
 
 -- 13: "direction neither 0 (encrypt) nor 1 (decrypt)"
 abbrev pub noDirection : ℕ → Bool

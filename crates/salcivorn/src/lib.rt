@@ -1,51 +1,21 @@
 // What a host in C sees: the S-box, expansion and the block on numbers and byte slices. Each answers with the refusal's number, 0 for done.
 ghost use mathlib.Core.Path.{_≡_};
 ghost use Prim.Native.Nat.{_<_};
-ghost use Rattle.refusal.specs.Refusal.{number, failed};
-ghost use Rattle.refusal.specs.Answer.{answerNumber, outcome};
+ghost use Rattle.refusal.specs.Refusal.{failed};
+ghost use Rattle.refusal.specs.Answer.{answerNumber};
 ghost use Rattle.inversion.specs.Answers.{byteAndMask};
 ghost use Rattle.salcivorn.specs.Entries.{noDirection, way, notLent, sboxOf, sboxPointsOf, expandOf, directedBlockOf};
 use inversion::Masked;
 use refusal::Check;
-use refusal::Outcome;
-use refusal::Refusal;
 use sbox::Direction;
 use tower::Record;
-
-fn wide(x: u8) -> u32
-    ensures { λ r. ⌜ r ≡ x ⌝ }
-{
-    x as u32
-}
-
-// The kind is for callers inside the language; a host gets the number.
-fn refusal_number(refusal: Refusal) -> u32
-    ensures { λ n. ⌜ n ≡ number refusal ⌝ }
-{
-    match refusal {
-        Refusal::Operand(n) => wide(n),
-        Refusal::Key(n) => wide(n),
-        Refusal::Buffer(n) => wide(n),
-        Refusal::Strip(n) => wide(n),
-        Refusal::Direction(n) => wide(n),
-    }
-}
-
-fn outcome_number(answer: Outcome) -> u32
-    ensures { λ n. ⌜ n ≡ answerNumber (outcome answer) ⌝ }
-{
-    match answer {
-        Outcome::Done => 0,
-        Outcome::Refused(refusal) => refusal_number(refusal),
-    }
-}
 
 fn masked_number(answer: Masked) -> u32
     ensures { λ n. ⌜ n ≡ answerNumber (byteAndMask answer) ⌝ }
 {
     match answer {
         Masked::Byte(_, _) => 0,
-        Masked::Refused(refusal) => refusal_number(refusal),
+        Masked::Refused(refusal) => refusal::refusal_number(refusal),
     }
 }
 
@@ -146,7 +116,7 @@ pub extern "C" fn salcivorn_sbox_points(
 pub extern "C" fn salcivorn_expand(key: &[u8], round_keys: &mut [u8]) -> u32
     ensures { λ n. ⌜ (n, now («round_keys» .exit)) ≡ expandOf (now (key .entry)) (now («round_keys» .entry)) ⌝ }
 {
-    outcome_number(expansion::expand(key, round_keys))
+    refusal::outcome_number(expansion::expand(key, round_keys))
 }
 
 #[no_mangle]
@@ -163,5 +133,5 @@ pub extern "C" fn salcivorn_block(
         return 13;
     };
     let answer = cipher::serve(direction_of(direction), block, mask, round_keys, strip);
-    outcome_number(answer)
+    refusal::outcome_number(answer)
 }

@@ -7,11 +7,14 @@ use native.Mathlib.Omega.{arith}
 use lib.ListN.{length, getD, take, drop}
 use lib.Dec.{eqb}
 use borrow.Author.Tests.{lt-ltb, le-ltb, ltb-false, eqb-true, not-false}
-use Rattle.refusal.specs.Answer.{done, refused, first, above, either, both, isNot, outcome}
+use Rattle.refusal.specs.Answer.{Answer, done, refused, first, above, either, both, isNot, noneOf, outcome}
+use Rattle.refusal.specs.declared.Refusal.{Refusal}
+use Rattle.refusal.specs.declared.Check.the-variants.{Passed}
 use Rattle.refusal.specs.declared.Outcome.{Outcome}
-use Rattle.refusal.specs.declared.Outcome.the-variants.{Done}
-use Rattle.refusal.proofs.First.{passed}
-use Rattle.strip.specs.Strip.{version, keySize, recordBytes, sameForm, badFraming, spent, unknownVersion, wrongRecordBytes, badThird, badRecord, formOf, wholeRecord, recordPart}
+use Rattle.refusal.specs.declared.Outcome.the-variants.{Done, Refused}
+use Rattle.refusal.proofs.First.{passed, found, front-failed, front-passed}
+use Rattle.strip.specs.Strip.{version, keySize, recordBytes, sameForm, badFraming, spent, unknownVersion, wrongRecordBytes, badThird, badRecord, checkList, formOf, ownFormOf, wholeRecord, recordPart}
+use Rattle.strip.specs.Inner.{frontOf, restOf}
 use Rattle.strip.proofs.Laws.{either-false, third-at}
 
 pub record Fit (s : List ℕ) (size : ℕ) : Type 0 where
@@ -45,7 +48,7 @@ bytes-of v k n key bytes e h =
     omega arith
 
 module _ (s : List ℕ) where
-  unspoilt : badFraming s ≡ false → 4 ≤ length s
+  pub unspoilt : badFraming s ≡ false → 4 ≤ length s
   unfolding badFraming
   unspoilt e = ltb-false (length s) 4 (either-false _ _ e)
 
@@ -82,6 +85,36 @@ either-way ((n, false) ∷ checks) l = either-way checks l
 pub past : (s : List ℕ) (i : ℕ) → length s < 4 + 3 * i + 3 → recordPart s i ≡ []
 unfolding wholeRecord
 past s i h = rw (lt-ltb (length s) (4 + 3 * i + 3) h) (either-way ((7, badFraming s) ∷ (8, unknownVersion s) ∷ (11, spent s) ∷ []) [])
+
+-- the check in its two parts: what the first found decides, or the rest goes on from four bytes that are there
+module _ (s : List ℕ) (f : Outcome) (e : outcome f ≡ frontOf s) where
+  pub front-long : f ≡ Done → 4 ≤ length s
+  front-long g = unspoilt s (passed 7 (badFraming s) _ tt (sym e ∙ ap outcome g) .0)
+
+  front : List (ℕ × Bool)
+  front = (7, badFraming s) ∷ (11, spent s) ∷ (8, unknownVersion s) ∷ []
+
+  rest : Bool → List (ℕ × Bool)
+  rest sized = (9, sized) ∷ (12, wrongRecordBytes s) ∷ (10, badRecord s) ∷ []
+
+  pub stopped : (sized : Bool) (r : Refusal) → f ≡ Refused r → outcome f ≡ first (checkList s sized) refused (done tt)
+  unfolding front rest
+  stopped sized r g = ap outcome g ∙ front-failed (rest sized) refused (done tt) (outcome f) tt front r e (ap outcome g)
+
+  pub onward : (sized t : Bool) (x : Answer (Unit {0})) → f ≡ Done → t ≡ sized → x ≡ restOf s t → x ≡ first (checkList s sized) refused (done tt)
+  unfolding front rest
+  onward sized t x g h i = front-passed (rest sized) refused (done tt) (outcome f) tt front x tt e (ap outcome g) (i ∙ ap (restOf s) h)
+
+-- a strip that passed by itself is no longer than those of 32-byte keys
+pub own-short : (s : List ℕ) → ownFormOf s ≡ done tt → length s ≤ 676
+own-short s e =
+    let p7 = passed 7 (badFraming s) _ tt e in
+    let p11 = passed 11 (spent s) _ tt (p7 .1) in
+    let p8 = passed 8 (unknownVersion s) _ tt (p11 .1) in
+    let p9 = passed 9 (noneOf (16 ∷ 24 ∷ 32 ∷ []) (keySize s)) _ tt (p8 .1) in
+    let p12 = passed 12 (wrongRecordBytes s) _ tt (p9 .1) in
+    let b : recordBytes s ≡ 12 * keySize s + 288 = right-bytes s (p12 .0) in
+    found 16 24 32 (keySize s) Passed (sym (p9 .0)) refl (λ k. omega arith) (λ k. omega arith) (λ k. omega arith)
 
 pub good : (s : List ℕ) (size : ℕ) (f : Outcome) → outcome f ≡ formOf s size → f ≡ Done → Fit s size
 good s size f e g =

@@ -4,7 +4,7 @@ use mathlib.Core.List.{List, [], _∷_, _++_}
 use mathlib.Core.Bool.{Bool, true, false, not}
 use lib.ListN.{length, getD, take, drop, set, replicate}
 use lib.Dec.{eqb, ltb}
-use Rattle.refusal.specs.Answer.{Answer, done, refused, first, above, either, both, isNot}
+use Rattle.refusal.specs.Answer.{Answer, done, refused, first, above, either, both, isNot, noneOf}
 
 -- "two bytes of length, big-endian, counting all that follows; one version byte; one key-size byte; then one record for each S-box"
 abbrev pub lengthField : List ℕ → ℕ
@@ -57,15 +57,24 @@ badThird (a ∷ b ∷ third ∷ records) = either (above 3 third) (badThird reco
 abbrev pub badRecord : List ℕ → Bool
 badRecord s = badThird (drop 4 s)
 
--- the refusals of a strip for a block under round keys of this key size, in their order, each with whether it applies
-abbrev pub checkList : List ℕ → ℕ → List (ℕ × Bool)
-checkList s size =
-    (7, badFraming s) ∷ (11, spent s) ∷ (8, unknownVersion s) ∷ (9, isNot size (keySize s)) ∷ (12, wrongRecordBytes s) ∷ (10, badRecord s) ∷ []
+-- a strip's own refusals, in their order, each with whether it applies; which key sizes 9 refuses is for the call to say
+abbrev pub checkList : List ℕ → Bool → List (ℕ × Bool)
+checkList s otherSize =
+    (7, badFraming s) ∷ (11, spent s) ∷ (8, unknownVersion s) ∷ (9, otherSize) ∷ (12, wrongRecordBytes s) ∷ (10, badRecord s) ∷ []
 
--- what the check of a strip answers
+-- for a block, another key size than that of its round keys; else, one that is none of the three
+abbrev pub blockChecks : List ℕ → ℕ → List (ℕ × Bool)
+blockChecks s size = checkList s (isNot size (keySize s))
 
+abbrev pub ownChecks : List ℕ → List (ℕ × Bool)
+ownChecks s = checkList s (noneOf (16 ∷ 24 ∷ 32 ∷ []) (keySize s))
+
+-- what the check of a strip answers, for a block and by itself
 abbrev pub formOf : List ℕ → ℕ → Answer (Unit {0})
-formOf s size = first (checkList s size) refused (done tt)
+formOf s size = first (blockChecks s size) refused (done tt)
+
+abbrev pub ownFormOf : List ℕ → Answer (Unit {0})
+ownFormOf s = first (ownChecks s) refused (done tt)
 
 abbrev pub unless : Bool → List ℕ → List ℕ
 unless true part = []

@@ -3,15 +3,16 @@ ghost use mathlib.Core.Path.{_≡_};
 ghost use Prim.Native.Nat.{_≤_};
 ghost use lib.ListN.{length, replicate};
 ghost use Rattle.refusal.specs.Refusal.{failed};
-ghost use Rattle.refusal.specs.Answer.{isNot, outcome};
-ghost use Rattle.strip.specs.Strip.{keySize, badFraming, spent, unknownVersion, wrongRecordBytes, badRecord, formOf, recordPart, wiped};
-ghost use Rattle.strip.specs.Inner.{restOf};
+ghost use Rattle.refusal.specs.Answer.{isNot, noneOf, outcome};
+ghost use mathlib.Core.List.{[], _∷_};
+ghost use Rattle.strip.specs.Strip.{keySize, badFraming, spent, unknownVersion, wrongRecordBytes, badRecord, formOf, ownFormOf, recordPart, wiped};
+ghost use Rattle.strip.specs.Inner.{frontOf, restOf};
 use refusal::Check;
 use refusal::Outcome;
 use refusal::Refusal;
 
-// 7: the two bytes are widened before they are joined, so that nothing overflows.
-fn check_framing(strip: &[u8]) -> Check
+// 7, and the framing of messages: the two bytes are widened before they are joined, so that nothing overflows.
+pub fn check_framing(strip: &[u8]) -> Check
     ensures { λ c. ⌜ failed c ≡ badFraming (now (strip .entry)) ⌝ }
 {
     let size = strip.len();
@@ -56,6 +57,14 @@ fn check_key_size(strip: &[u8], key_size: u8) -> Check
     refusal::check_length(strip[3] as usize, key_size as usize)
 }
 
+// 9, where no block says which.
+fn check_any_key_size(strip: &[u8]) -> Check
+    requires { ⌜ 4 ≤ length (now strip) ⌝ }
+    ensures { λ c. ⌜ failed c ≡ noneOf (16 ∷ 24 ∷ 32 ∷ []) (keySize (now (strip .entry))) ⌝ }
+{
+    refusal::check_lengths(strip[3] as usize, 16, 24, 32)
+}
+
 // 12: each form of a strip stands here once, with its number of record bytes; what is no form has no right number.
 fn check_record_bytes(strip: &[u8]) -> Check
     requires { ⌜ 4 ≤ length (now strip) ⌝ }
@@ -95,12 +104,28 @@ fn check_records(strip: &[u8]) -> Check
     Check::Passed
 }
 
-// The refusals of a strip whose framing and version are good: 9, 12, 10.
-fn check_rest(strip: &[u8], key_size: u8) -> Outcome
-    requires { ⌜ 4 ≤ length (now strip) ⌝ }
-    ensures { λ r. ⌜ outcome r ≡ restOf (now (strip .entry)) «key_size» ⌝ }
+// The first three refusals: 7, 11, 8.
+fn check_front(strip: &[u8]) -> Outcome
+    ensures { λ r. ⌜ outcome r ≡ frontOf (now (strip .entry)) ⌝ }
 {
-    let Check::Passed = check_key_size(strip, key_size) else {
+    let Check::Passed = check_framing(strip) else {
+        return Outcome::Refused(Refusal::Strip(7));
+    };
+    let Check::Passed = check_unspent(strip) else {
+        return Outcome::Refused(Refusal::Strip(11));
+    };
+    let Check::Passed = check_version(strip) else {
+        return Outcome::Refused(Refusal::Strip(8));
+    };
+    Outcome::Done
+}
+
+// The refusals of a strip whose framing and version are good: 9, 12, 10.
+fn check_rest(strip: &[u8], sized: Check) -> Outcome
+    requires { ⌜ 4 ≤ length (now strip) ⌝ }
+    ensures { λ r. ⌜ outcome r ≡ restOf (now (strip .entry)) (failed sized) ⌝ }
+{
+    let Check::Passed = sized else {
         return Outcome::Refused(Refusal::Strip(9));
     };
     let Check::Passed = check_record_bytes(strip) else {
@@ -116,16 +141,22 @@ fn check_rest(strip: &[u8], key_size: u8) -> Outcome
 pub fn check(strip: &[u8], key_size: u8) -> Outcome
     ensures { λ r. ⌜ outcome r ≡ formOf (now (strip .entry)) «key_size» ⌝ }
 {
-    let Check::Passed = check_framing(strip) else {
-        return Outcome::Refused(Refusal::Strip(7));
+    let front = check_front(strip);
+    let Outcome::Done = front else {
+        return front;
     };
-    let Check::Passed = check_unspent(strip) else {
-        return Outcome::Refused(Refusal::Strip(11));
+    check_rest(strip, check_key_size(strip, key_size))
+}
+
+// The same for no block yet, as a pool takes strips in: 9 where the key size is none of the three.
+pub fn check_own(strip: &[u8]) -> Outcome
+    ensures { λ r. ⌜ outcome r ≡ ownFormOf (now (strip .entry)) ⌝ }
+{
+    let front = check_front(strip);
+    let Outcome::Done = front else {
+        return front;
     };
-    let Check::Passed = check_version(strip) else {
-        return Outcome::Refused(Refusal::Strip(8));
-    };
-    check_rest(strip, key_size)
+    check_rest(strip, check_any_key_size(strip))
 }
 
 // A record as a part of the caller's own strip; records count from 0.
@@ -150,7 +181,7 @@ pub fn record(strip: &[u8], index: usize) -> &[u8]
 }
 
 // Every byte of a part becomes zero, with no look at what it was.
-fn zero(part: &mut [u8])
+pub fn zero(part: &mut [u8])
     ensures { λ _. ⌜ now (part .exit) ≡ replicate (length (now (part .entry))) 0 ⌝ }
 {
     let mut i = 0;

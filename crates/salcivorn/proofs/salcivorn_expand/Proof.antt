@@ -1,6 +1,6 @@
 -- `salcivorn::salcivorn_expand` meets its contract: the answer below, numbered. Assumes nothing.
 use borrow.Author.Needs.{needs}
-use Rattle.salcivorn.proofs.Laws.{numbered-as}
+use Rattle.refusal.proofs.First.{numbered-as}
 use Rattle.salcivorn.specs.Entries.{expandOf}
 use Rattle.salcivorn.proofs.salcivorn_expand.Statement.{statement}
 use Rattle.salcivorn.proofs.salcivorn_expand.Tie as tie

@@ -1,12 +1,11 @@
--- `strip::check` meets its contract: from the answers of the checks, in their order. Assumes nothing.
+-- `strip::check` meets its contract: from the first checks, the key size against that of the round keys, and the rest. Assumes nothing.
 use borrow.Author.Needs.{needs}
-use Rattle.refusal.proofs.First.{first-stop, first-on}
-use Rattle.strip.proofs.Laws.{framed}
+use Rattle.strip.proofs.Good.{front-long, stopped, onward}
 use Rattle.strip.proofs.check.Statement.{statement}
 use Rattle.strip.proofs.check.Tie as tie
 
-check-framing-requires : tie.Need-check-framing-requires
-check-framing-requires c κs = search needs
+check-front-requires : tie.Need-check-front-requires
+check-front-requires c κs = search needs
 
 enum-told : tie.Need-enum-told
 enum-told c = search needs
@@ -15,53 +14,25 @@ enum-told-2 : tie.Need-enum-told-2
 enum-told-2 c = search needs
 
 returns : tie.Need-returns
-returns c = search first-stop
+returns c = stopped _ _ (c .before .before .check-front .ensures) _ _ (c .enum-told2 .given .1)
 
-check-unspent-requires : tie.Need-check-unspent-requires
-check-unspent-requires c κs = search framed
-
-enum-told-3 : tie.Need-enum-told-3
-enum-told-3 c = search needs
-
-enum-told-4 : tie.Need-enum-told-4
-enum-told-4 c = search needs
-
-returns-2 : tie.Need-returns-2
-returns-2 c = search (first-on, first-stop)
-
-check-version-requires : tie.Need-check-version-requires
-check-version-requires c κs = search framed
-
-enum-told-5 : tie.Need-enum-told-5
-enum-told-5 c = search needs
-
-enum-told-6 : tie.Need-enum-told-6
-enum-told-6 c = search needs
-
-returns-3 : tie.Need-returns-3
-returns-3 c = search (first-on, first-stop)
+check-key-size-requires : tie.Need-check-key-size-requires
+check-key-size-requires c κs = front-long _ _ (c .before .before .check-front .ensures) (c .enum-told .given .1)
 
 check-rest-requires : tie.Need-check-rest-requires
-check-rest-requires c κs = search framed
+check-rest-requires c κs = front-long _ _ (c .before .before .before .check-front .ensures) (c .before .enum-told .given .1)
 
-returns-4 : tie.Need-returns-4
-returns-4 c = search first-on
+returns-2 : tie.Need-returns-2
+returns-2 c = onward _ _ (c .before .before .before .before .check-front .ensures) _ _ _ (c .before .before .enum-told .given .1) (c .before .check-key-size .ensures) (c .check-rest .ensures)
 
 pub check-spec : {M : Type 1} → statement M
 check-spec =
     tie.close
     (tie.spec
-    check-framing-requires
+    check-front-requires
     enum-told
     enum-told-2
     returns
-    check-unspent-requires
-    enum-told-3
-    enum-told-4
-    returns-2
-    check-version-requires
-    enum-told-5
-    enum-told-6
-    returns-3
+    check-key-size-requires
     check-rest-requires
-    returns-4)
+    returns-2)

@@ -4,9 +4,6 @@ use Rattle.refusal.proofs.First.{first-stop, first-on, first-done}
 use Rattle.strip.proofs.check_rest.Statement.{statement}
 use Rattle.strip.proofs.check_rest.Tie as tie
 
-check-key-size-requires : tie.Need-check-key-size-requires
-check-key-size-requires c κs = search needs
-
 enum-told : tie.Need-enum-told
 enum-told c = search needs
 
@@ -47,7 +44,6 @@ pub check-rest-spec : {M : Type 1} → statement M
 check-rest-spec =
     tie.close
     (tie.spec
-    check-key-size-requires
     enum-told
     enum-told-2
     returns
