@@ -1,0 +1,4 @@
+pub mod Pools
+pub mod Kept
+pub mod Claims
+pub mod Wrong
