@@ -1,0 +1,237 @@
+// A master's state: nine bytes that the host keeps. It is read and written here, with the checks that it alone decides.
+ghost use mathlib.Core.Path.{_≡_};
+ghost use Prim.Native.Nat.{_<_};
+ghost use mathlib.Core.List.{[], _∷_};
+ghost use lib.ListN.{getD};
+ghost use Rattle.refusal.specs.Refusal.{failed};
+ghost use Rattle.refusal.specs.Answer.{done, refused, first, outcome};
+ghost use Rattle.message.specs.Message.{numberAt};
+ghost use Rattle.master.specs.State.{stateIn, stateBytes, gone, neverSent, sentTooMuch, impossible, noState, waiting, usedUp, noRoom, noneHeld, isStandby, sending, counts};
+use refusal::Check;
+use refusal::Outcome;
+use refusal::Refusal;
+
+// The roles: 0 active with nothing outstanding, 1 with an addition, 2 with a taking outstanding, 3 standby, 4 alone.
+// Strips are numbered one by one and the lowest is taken first, so the two counts say which are held and which number is next.
+pub struct State {
+    pub role: u8,
+    pub added: u32,
+    pub taken: u32,
+}
+
+pub fn wide(x: u32) -> u64
+    ensures { λ r. ⌜ (r ≡ x) × (r < 4294967296) ⌝ }
+{
+    x as u64
+}
+
+fn byte_at(part: &[u8], index: usize) -> u8
+    ensures { λ b. ⌜ b ≡ getD (now (part .entry)) index 0 ⌝ }
+{
+    if index < part.len() {
+        return part[index];
+    }
+    0
+}
+
+fn number_at(part: &[u8], at: usize) -> u32
+    requires { ⌜ at < 6 ⌝ }
+    ensures { λ n. ⌜ n ≡ numberAt (now (part .entry)) at ⌝ }
+{
+    message::number(
+        byte_at(part, at),
+        byte_at(part, at + 1),
+        byte_at(part, at + 2),
+        byte_at(part, at + 3),
+    )
+}
+
+// Any bytes are read; those that are not there count as zero.
+pub fn read(state: &[u8]) -> State
+    ensures { λ m. ⌜ m ≡ stateIn (now (state .entry)) ⌝ }
+{
+    State {
+        role: byte_at(state, 0),
+        added: number_at(state, 1),
+        taken: number_at(state, 5),
+    }
+}
+
+pub fn state_bytes(master: State) -> [u8; 9]
+    ensures { λ b. ⌜ b ≡ stateBytes master ⌝ }
+{
+    let added = message::number_bytes(master.added);
+    let taken = message::number_bytes(master.taken);
+    [
+        master.role,
+        added[0],
+        added[1],
+        added[2],
+        added[3],
+        taken[0],
+        taken[1],
+        taken[2],
+        taken[3],
+    ]
+}
+
+// How many strips have left their rooms.
+fn left_rooms(master: State) -> u32
+    ensures { λ n. ⌜ n ≡ gone master ⌝ }
+{
+    if master.role != 2 {
+        return master.taken;
+    }
+    if master.taken == 0 {
+        return 0;
+    }
+    master.taken - 1
+}
+
+fn check_sent(master: State) -> Check
+    ensures { λ c. ⌜ failed c ≡ neverSent master ⌝ }
+{
+    if master.role == 1 {
+        if master.added == master.taken {
+            return Check::Failed;
+        }
+        return Check::Passed;
+    }
+    if master.role == 2 {
+        if master.taken == 0 {
+            return Check::Failed;
+        }
+        return Check::Passed;
+    }
+    Check::Passed
+}
+
+fn check_sum(master: State) -> Check
+    ensures { λ c. ⌜ failed c ≡ sentTooMuch master ⌝ }
+{
+    if master.role == 4 {
+        return Check::Passed;
+    }
+    if 4294967295 < wide(master.added) + wide(master.taken) {
+        return Check::Failed;
+    }
+    Check::Passed
+}
+
+// Whether a run of calls can have made the counts.
+fn check_counts(master: State) -> Check
+    ensures { λ c. ⌜ failed c ≡ impossible master ⌝ }
+{
+    if 4 < master.role {
+        return Check::Failed;
+    }
+    if master.added < master.taken {
+        return Check::Failed;
+    }
+    if wide(left_rooms(master)) + 64 < wide(master.added) {
+        return Check::Failed;
+    }
+    let Check::Passed = check_sent(master) else {
+        return Check::Failed;
+    };
+    check_sum(master)
+}
+
+pub fn check(state: &[u8]) -> Check
+    ensures { λ c. ⌜ failed c ≡ noState (now (state .entry)) ⌝ }
+{
+    let Check::Passed = refusal::check_length(state.len(), 9) else {
+        return Check::Failed;
+    };
+    check_counts(read(state))
+}
+
+pub fn check_standby(master: State) -> Check
+    ensures { λ c. ⌜ failed c ≡ isStandby master ⌝ }
+{
+    if master.role == 3 {
+        return Check::Failed;
+    }
+    Check::Passed
+}
+
+// 23
+fn check_waiting(master: State) -> Check
+    ensures { λ c. ⌜ failed c ≡ waiting master ⌝ }
+{
+    if master.role == 1 {
+        return Check::Failed;
+    }
+    if master.role == 2 {
+        return Check::Failed;
+    }
+    Check::Passed
+}
+
+// 24
+fn check_numbers(master: State) -> Check
+    ensures { λ c. ⌜ failed c ≡ usedUp master ⌝ }
+{
+    if master.role == 4 {
+        return Check::Passed;
+    }
+    if 4294967295 <= wide(master.added) + wide(master.taken) {
+        return Check::Failed;
+    }
+    Check::Passed
+}
+
+// 14
+pub fn check_room(master: State) -> Check
+    ensures { λ c. ⌜ failed c ≡ noRoom master ⌝ }
+{
+    if wide(master.taken) + 64 <= wide(master.added) {
+        return Check::Failed;
+    }
+    if master.added == 4294967295 {
+        return Check::Failed;
+    }
+    Check::Passed
+}
+
+// 15
+pub fn check_held(master: State) -> Check
+    ensures { λ c. ⌜ failed c ≡ noneHeld master ⌝ }
+{
+    if master.added <= master.taken {
+        return Check::Failed;
+    }
+    Check::Passed
+}
+
+// Whether another message may be sent: 23, 24.
+pub fn check_sending(master: State) -> Outcome
+    ensures { λ r. ⌜ outcome r ≡ first ((23, waiting master) ∷ (24, usedUp master) ∷ []) refused (done tt) ⌝ }
+{
+    let Check::Passed = check_waiting(master) else {
+        return Outcome::Refused(Refusal::Pool(23));
+    };
+    let Check::Passed = check_numbers(master) else {
+        return Outcome::Refused(Refusal::Pool(24));
+    };
+    Outcome::Done
+}
+
+// The role of a master that sends a message of this kind; alone, none is sent.
+pub fn role_sending(master: State, kind: u8) -> u8
+    ensures { λ r. ⌜ r ≡ sending master kind ⌝ }
+{
+    if master.role == 4 {
+        return 4;
+    }
+    kind
+}
+
+pub fn counted(master: State, sequence: u32) -> bool
+    ensures { λ r. ⌜ r ≡ counts master sequence ⌝ }
+{
+    let Check::Failed = check_waiting(master) else {
+        return false;
+    };
+    wide(sequence) == wide(master.added) + wide(master.taken)
+}

@@ -1,0 +1,4 @@
+pub mod Places
+pub mod Admitted
+pub mod Applied
+pub mod Promise
