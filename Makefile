@@ -1,11 +1,11 @@
-# make run: the known answers and the C example.   make test: what the gate runs.   make replay: the whole comparison with the second program.
+# make run: the known answers and the two C examples.   make test: what the gate runs.   make replay: the whole comparison with the second program.
 # make bench: what a call costs, in executed instructions.   make trace: that every run of a call takes the same way.   make listing: that no register tells the secret.
 .PHONY: run test replay bench trace listing clean
 
 run:
-	@rt check known_answers salcivorn
+	@rt check known_answers salcivorn salcivorn_pool
 	@tests/build
-	@bash -c '. tests/tools.sh && $$RUN target/bin/known_answers crates/known_answers/data/vectors && $$RUN build/example'
+	@bash -c '. tests/tools.sh && $$RUN target/bin/known_answers crates/known_answers/data/vectors && $$RUN build/example && $$RUN build/pool_example'
 
 test:
 	@tests/gate

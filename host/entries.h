@@ -1,10 +1,10 @@
-/* The four entries as a table, so that a test can go over calls and buffers by index. */
+/* The entries as a table, so that a test can go over calls and buffers by index. */
 #ifndef HOST_ENTRIES_H
 #define HOST_ENTRIES_H
 
 #include "wrapper.h"
 
-enum { ENTRY_COUNT = 4, ENTRY_BUFFERS = 4 };
+enum { ENTRY_COUNT = 10, ENTRY_BUFFERS = 5, ENTRY_REFUSALS = 10 };
 
 /* One call's loans, in the order of the C parameters. */
 struct loans {
@@ -13,11 +13,13 @@ struct loans {
     size_t length[ENTRY_BUFFERS];
 };
 
+/* The refusals are all that the entry gives, in their order; zeros fill up. */
 struct entry {
     const char *name;
     size_t buffers;
     uint32_t (*direct)(const struct loans *);
     uint32_t (*checked)(const struct loans *);
+    uint32_t refusals[ENTRY_REFUSALS];
 };
 
 extern const struct entry entries[ENTRY_COUNT];

@@ -1,36 +1,11 @@
 /* How a host uses the library: fresh strips from the system's random source, one block encrypted
  * under a random mask, the strip refused a second time, and the block brought back. The key and the
  * block are those of FIPS 197, appendix C.1, so that the answer can be compared. */
+#include "fresh_strip.h"
 #include "tally.h"
 #include "wrapper.h"
 
-#include <stdlib.h>
-#include <string.h>
-
 static struct tally tally;
-
-/* Without random bytes there is no masking, so there is nothing to go on with. */
-static void random_bytes(uint8_t *bytes, size_t count)
-{
-    FILE *source = fopen("/dev/urandom", "rb");
-
-    if (source == NULL || fread(bytes, 1, count, source) != count) {
-        fprintf(stderr, "no random source\n");
-        exit(1);
-    }
-    fclose(source);
-}
-
-/* A strip for a 16-byte key: length 482, version 1, key size 16, then records with r from 0 to 3. */
-static void make_strip(uint8_t strip[SALCIVORN_STRIP_SIZE_16])
-{
-    static const uint8_t header[] = {0x01, 0xe2, 1, 16};
-
-    random_bytes(strip, SALCIVORN_STRIP_SIZE_16);
-    memcpy(strip, header, sizeof header);
-    for (size_t third = sizeof header + 2; third < SALCIVORN_STRIP_SIZE_16; third += SALCIVORN_RECORD_SIZE)
-        strip[third] &= 3;
-}
 
 struct masked {
     uint8_t data[SALCIVORN_BLOCK_SIZE];
@@ -93,12 +68,12 @@ int main(void)
     random_bytes(block.mask, sizeof block.mask);
     memcpy(block.data, plain, sizeof block.data);
     add(block.data, block.mask);
-    make_strip(strip);
+    fresh_strip(strip);
     expect("encrypt", run(SALCIVORN_ENCRYPT, &block, round_keys, strip), SALCIVORN_DONE);
     show_and_compare(&block, cipher);
     expect("the same strip again", run(SALCIVORN_ENCRYPT, &block, round_keys, strip), SALCIVORN_STRIP_SPENT);
 
-    make_strip(strip);
+    fresh_strip(strip);
     expect("decrypt, fresh strip", run(SALCIVORN_DECRYPT, &block, round_keys, strip), SALCIVORN_DONE);
     show_and_compare(&block, plain);
     return tally_report(&tally);

@@ -101,3 +101,83 @@ uint32_t salcivorn_checked_block(uint32_t direction,
         : salcivorn_block(direction, lend(block), block_len, lend(mask), mask_len,
                           lend_const(round_keys), round_keys_len, lend(strip), strip_len);
 }
+
+uint32_t salcivorn_checked_pool_add(uint8_t *state, size_t state_len,
+                                    uint8_t *rooms, size_t rooms_len,
+                                    const uint8_t *strip, size_t strip_len)
+{
+    const struct loan loans[] = {{state, state_len}, {rooms, rooms_len}, {strip, strip_len}};
+    uint32_t refused = test_loans(loans, 3);
+
+    return refused != SALCIVORN_DONE
+        ? refused
+        : salcivorn_pool_add(lend(state), state_len, lend(rooms), rooms_len, lend_const(strip), strip_len);
+}
+
+uint32_t salcivorn_checked_pool_take(uint8_t *state, size_t state_len,
+                                     uint8_t *rooms, size_t rooms_len,
+                                     uint8_t *number, size_t number_len,
+                                     uint8_t *strip, size_t strip_len)
+{
+    const struct loan loans[] = {
+        {state, state_len}, {rooms, rooms_len}, {number, number_len}, {strip, strip_len}};
+    uint32_t refused = test_loans(loans, 4);
+
+    return refused != SALCIVORN_DONE
+        ? refused
+        : salcivorn_pool_take(lend(state), state_len, lend(rooms), rooms_len, lend(number), number_len,
+                              lend(strip), strip_len);
+}
+
+uint32_t salcivorn_checked_pool_outstanding(const uint8_t *state, size_t state_len,
+                                            const uint8_t *rooms, size_t rooms_len,
+                                            uint8_t *message, size_t message_len)
+{
+    const struct loan loans[] = {{state, state_len}, {rooms, rooms_len}, {message, message_len}};
+    uint32_t refused = test_loans(loans, 3);
+
+    return refused != SALCIVORN_DONE
+        ? refused
+        : salcivorn_pool_outstanding(lend_const(state), state_len, lend_const(rooms), rooms_len,
+                                     lend(message), message_len);
+}
+
+uint32_t salcivorn_checked_pool_acknowledge(uint8_t *state, size_t state_len,
+                                            uint8_t *rooms, size_t rooms_len,
+                                            const uint8_t *acknowledgement, size_t acknowledgement_len,
+                                            uint8_t *number, size_t number_len,
+                                            uint8_t *strip, size_t strip_len)
+{
+    const struct loan loans[] = {{state, state_len}, {rooms, rooms_len}, {acknowledgement, acknowledgement_len},
+                                 {number, number_len}, {strip, strip_len}};
+    uint32_t refused = test_loans(loans, 5);
+
+    return refused != SALCIVORN_DONE
+        ? refused
+        : salcivorn_pool_acknowledge(lend(state), state_len, lend(rooms), rooms_len,
+                                     lend_const(acknowledgement), acknowledgement_len, lend(number),
+                                     number_len, lend(strip), strip_len);
+}
+
+uint32_t salcivorn_checked_pool_apply(uint8_t *state, size_t state_len,
+                                      uint8_t *rooms, size_t rooms_len,
+                                      const uint8_t *message, size_t message_len,
+                                      uint8_t *acknowledgement, size_t acknowledgement_len)
+{
+    const struct loan loans[] = {{state, state_len}, {rooms, rooms_len}, {message, message_len},
+                                 {acknowledgement, acknowledgement_len}};
+    uint32_t refused = test_loans(loans, 4);
+
+    return refused != SALCIVORN_DONE
+        ? refused
+        : salcivorn_pool_apply(lend(state), state_len, lend(rooms), rooms_len, lend_const(message),
+                               message_len, lend(acknowledgement), acknowledgement_len);
+}
+
+uint32_t salcivorn_checked_pool_go_alone(uint8_t *state, size_t state_len)
+{
+    const struct loan loans[] = {{state, state_len}};
+    uint32_t refused = test_loans(loans, 1);
+
+    return refused != SALCIVORN_DONE ? refused : salcivorn_pool_go_alone(lend(state), state_len);
+}

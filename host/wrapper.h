@@ -38,6 +38,32 @@ uint32_t salcivorn_checked_block(uint32_t direction,
                                  const uint8_t *round_keys, size_t round_keys_len,
                                  uint8_t *strip, size_t strip_len);
 
+uint32_t salcivorn_checked_pool_add(uint8_t *state, size_t state_len,
+                                    uint8_t *rooms, size_t rooms_len,
+                                    const uint8_t *strip, size_t strip_len);
+
+uint32_t salcivorn_checked_pool_take(uint8_t *state, size_t state_len,
+                                     uint8_t *rooms, size_t rooms_len,
+                                     uint8_t *number, size_t number_len,
+                                     uint8_t *strip, size_t strip_len);
+
+uint32_t salcivorn_checked_pool_outstanding(const uint8_t *state, size_t state_len,
+                                            const uint8_t *rooms, size_t rooms_len,
+                                            uint8_t *message, size_t message_len);
+
+uint32_t salcivorn_checked_pool_acknowledge(uint8_t *state, size_t state_len,
+                                            uint8_t *rooms, size_t rooms_len,
+                                            const uint8_t *acknowledgement, size_t acknowledgement_len,
+                                            uint8_t *number, size_t number_len,
+                                            uint8_t *strip, size_t strip_len);
+
+uint32_t salcivorn_checked_pool_apply(uint8_t *state, size_t state_len,
+                                      uint8_t *rooms, size_t rooms_len,
+                                      const uint8_t *message, size_t message_len,
+                                      uint8_t *acknowledgement, size_t acknowledgement_len);
+
+uint32_t salcivorn_checked_pool_go_alone(uint8_t *state, size_t state_len);
+
 #ifdef __cplusplus
 }
 #endif

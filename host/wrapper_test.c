@@ -5,39 +5,60 @@
 
 #include <string.h>
 
-enum { ROOM = 2048, ARENA = ENTRY_BUFFERS * ROOM };
+enum { PLACE = 1 << 17, ARENA = ENTRY_BUFFERS * PLACE };
 
 static uint8_t arena[ARENA];
 static uint8_t before[ARENA];
 static struct tally tally;
 
-/* Lengths with which each call is served, in the order of the table of entries. */
-static const size_t good_lengths[ENTRY_COUNT][ENTRY_BUFFERS] = {
-    {1, 1, SALCIVORN_RECORD_SIZE, 0},
-    {1, 1, SALCIVORN_RECORD_SIZE, SALCIVORN_POINTS_SIZE},
-    {16, SALCIVORN_ROUND_KEYS_SIZE_16, 0, 0},
-    {SALCIVORN_BLOCK_SIZE, SALCIVORN_BLOCK_SIZE, SALCIVORN_ROUND_KEYS_SIZE_16, SALCIVORN_STRIP_SIZE_16},
+/* A buffer with which its call is served: its length and first bytes. The rest is 1, which makes good
+ * records too. */
+struct good {
+    size_t length;
+    uint8_t head[12];
+    size_t head_len;
 };
 
-/* Every byte 1 makes good records; a strip needs its four first bytes as well. */
-static void fill(const struct loans *loans)
-{
-    static const uint8_t header[] = {0x01, 0xe2, 1, 16};
+#define STRIP_HEAD {0x01, 0xe2, 1, 16}, 4
 
+/* In the order of the table of entries. The pool's states: new and active; with one strip; the same; with
+ * the addition of that strip outstanding; and new standbys, the message being an old taking. */
+static const struct good good[ENTRY_COUNT][ENTRY_BUFFERS] = {
+    {{1, {1}, 1}, {1, {1}, 1}, {SALCIVORN_RECORD_SIZE, {1}, 1}},
+    {{1, {1}, 1}, {1, {1}, 1}, {SALCIVORN_RECORD_SIZE, {1}, 1}, {SALCIVORN_POINTS_SIZE, {1}, 1}},
+    {{16, {1}, 1}, {SALCIVORN_ROUND_KEYS_SIZE_16, {1}, 1}},
+    {{SALCIVORN_BLOCK_SIZE, {1}, 1}, {SALCIVORN_BLOCK_SIZE, {1}, 1}, {SALCIVORN_ROUND_KEYS_SIZE_16, {1}, 1},
+     {SALCIVORN_STRIP_SIZE_16, STRIP_HEAD}},
+    {{SALCIVORN_POOL_STATE_SIZE, {0}, 9}, {SALCIVORN_POOL_ROOMS_SIZE, {1}, 1}, {SALCIVORN_STRIP_SIZE_16, STRIP_HEAD}},
+    {{SALCIVORN_POOL_STATE_SIZE, {0, 0, 0, 0, 1}, 9}, {SALCIVORN_POOL_ROOMS_SIZE, {1}, 1},
+     {SALCIVORN_POOL_NUMBER_SIZE, {1}, 1}, {SALCIVORN_POOL_STRIP_SIZE, {1}, 1}},
+    {{SALCIVORN_POOL_STATE_SIZE, {0, 0, 0, 0, 1}, 9}, {SALCIVORN_POOL_ROOMS_SIZE, {1}, 1},
+     {SALCIVORN_POOL_MESSAGE_SIZE, {1}, 1}},
+    {{SALCIVORN_POOL_STATE_SIZE, {1, 0, 0, 0, 1}, 9}, {SALCIVORN_POOL_ROOMS_SIZE, {1}, 1},
+     {SALCIVORN_POOL_ACKNOWLEDGEMENT_SIZE, {0, 6, 1, 3, 0, 0, 0, 1}, 8}, {SALCIVORN_POOL_NUMBER_SIZE, {1}, 1},
+     {SALCIVORN_POOL_STRIP_SIZE, {1}, 1}},
+    {{SALCIVORN_POOL_STATE_SIZE, {3}, 9}, {SALCIVORN_POOL_ROOMS_SIZE, {1}, 1}, {12, {0, 10, 1, 2}, 12},
+     {SALCIVORN_POOL_ACKNOWLEDGEMENT_SIZE, {1}, 1}},
+    {{SALCIVORN_POOL_STATE_SIZE, {3}, 9}},
+};
+
+static void fill(size_t call, const struct loans *loans)
+{
     memset(arena, 1, ARENA);
-    if (loans->length[3] == SALCIVORN_STRIP_SIZE_16)
-        memcpy(loans->start[3], header, sizeof header);
+    for (size_t i = 0; i < entries[call].buffers; i++)
+        if (loans->length[i] > 0)
+            memcpy(loans->start[i], good[call][i].head, good[call][i].head_len);
     memcpy(before, arena, ARENA);
 }
 
-/* Buffers in rooms of their own, in the middle, so that there is space on both sides. */
+/* Buffers in places of their own, in the middle, so that there is space on both sides. */
 static struct loans apart(size_t call)
 {
     struct loans loans = {.direction = SALCIVORN_ENCRYPT};
 
     for (size_t i = 0; i < ENTRY_BUFFERS; i++) {
-        loans.start[i] = arena + i * ROOM + ROOM / 2;
-        loans.length[i] = good_lengths[call][i];
+        loans.start[i] = arena + i * PLACE + PLACE / 2;
+        loans.length[i] = good[call][i].length;
     }
     return loans;
 }
@@ -65,15 +86,15 @@ static void place(size_t call, size_t fixed, size_t moved, ptrdiff_t offset, uin
     char what[60];
 
     loans.start[moved] = loans.start[fixed] + offset;
-    fill(&loans);
+    fill(call, &loans);
     snprintf(what, sizeof what, "buffer %zu at %td of buffer %zu", moved, offset, fixed);
     expect(call, &loans, expected, what);
 }
 
 static void test_pair(size_t call, size_t fixed, size_t moved)
 {
-    ptrdiff_t length = (ptrdiff_t)good_lengths[call][fixed];
-    ptrdiff_t other = (ptrdiff_t)good_lengths[call][moved];
+    ptrdiff_t length = (ptrdiff_t)good[call][fixed].length;
+    ptrdiff_t other = (ptrdiff_t)good[call][moved].length;
 
     place(call, fixed, moved, 0, SALCIVORN_CHECKED_OVERLAP);
     place(call, fixed, moved, length / 2, SALCIVORN_CHECKED_OVERLAP);
@@ -87,7 +108,7 @@ static void test_null(size_t call, size_t index, uint32_t refusal_when_empty)
 {
     struct loans loans = apart(call);
 
-    fill(&loans);
+    fill(call, &loans);
     loans.start[index] = NULL;
     expect(call, &loans, SALCIVORN_CHECKED_NULL, "a null buffer");
     loans.start[(index + 1) % entries[call].buffers] = NULL;
@@ -105,7 +126,7 @@ static void test_empty(size_t call, size_t index, uint32_t refusal)
 
     loans.start[index] = loans.start[(index + 1) % entries[call].buffers];
     loans.length[index] = 0;
-    fill(&loans);
+    fill(call, &loans);
     expect(call, &loans, refusal, "an empty buffer inside another");
 }
 
@@ -116,24 +137,30 @@ static void test_null_before_overlap(size_t call)
     if (entries[call].buffers < 3)
         return;
     loans.start[0] = loans.start[1];
-    fill(&loans);
+    fill(call, &loans);
     loans.start[2] = NULL;
     expect(call, &loans, SALCIVORN_CHECKED_NULL, "null and overlap");
 }
 
 /* What each entry says to an empty buffer. */
 static const uint32_t when_empty[ENTRY_COUNT][ENTRY_BUFFERS] = {
-    {SALCIVORN_PART_LENGTH, SALCIVORN_PART_LENGTH, SALCIVORN_PART_LENGTH, 0},
+    {SALCIVORN_PART_LENGTH, SALCIVORN_PART_LENGTH, SALCIVORN_PART_LENGTH},
     {SALCIVORN_PART_LENGTH, SALCIVORN_PART_LENGTH, SALCIVORN_PART_LENGTH, SALCIVORN_POINTS_LENGTH},
-    {SALCIVORN_KEY_LENGTH, SALCIVORN_ROUND_KEYS_LENGTH, 0, 0},
+    {SALCIVORN_KEY_LENGTH, SALCIVORN_ROUND_KEYS_LENGTH},
     {SALCIVORN_PART_LENGTH, SALCIVORN_PART_LENGTH, SALCIVORN_ROUND_KEYS_LENGTH, SALCIVORN_STRIP_FRAMING},
+    {SALCIVORN_PART_LENGTH, SALCIVORN_PART_LENGTH, SALCIVORN_STRIP_FRAMING},
+    {SALCIVORN_PART_LENGTH, SALCIVORN_PART_LENGTH, SALCIVORN_PART_LENGTH, SALCIVORN_PART_LENGTH},
+    {SALCIVORN_PART_LENGTH, SALCIVORN_PART_LENGTH, SALCIVORN_PART_LENGTH},
+    {SALCIVORN_PART_LENGTH, SALCIVORN_PART_LENGTH, SALCIVORN_MESSAGE, SALCIVORN_PART_LENGTH, SALCIVORN_PART_LENGTH},
+    {SALCIVORN_PART_LENGTH, SALCIVORN_PART_LENGTH, SALCIVORN_MESSAGE, SALCIVORN_PART_LENGTH},
+    {SALCIVORN_PART_LENGTH},
 };
 
 static void test_call(size_t call)
 {
     struct loans loans = apart(call);
 
-    fill(&loans);
+    fill(call, &loans);
     expect(call, &loans, SALCIVORN_DONE, "buffers apart");
     for (size_t i = 0; i < entries[call].buffers; i++) {
         for (size_t j = 0; j < entries[call].buffers; j++)

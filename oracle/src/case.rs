@@ -5,9 +5,11 @@ use crate::case_block::Blocks;
 use crate::case_expand::Expansions;
 use crate::case_sbox::Sboxes;
 use crate::rng::Rng;
+use crate::walk::Walk;
 use std::io::{self, BufWriter, Write};
 
-const MAGIC: &[u8; 8] = b"SALCASE1";
+const MAGIC: &[u8; 8] = b"SALCASE2";
+const LINES: usize = 5;
 
 #[derive(Clone, Copy, PartialEq, Debug)]
 pub enum Call {
@@ -23,6 +25,18 @@ pub struct Case {
     pub call: Call,
     pub direction: u32,
     pub buffers: Vec<Vec<u8>>,
+}
+
+/// A call as a file tells it: all buffers before and after, and the number.
+pub struct Told {
+    pub call: u8,
+    /// Each case is written by what differs from the last one of its line, so that a buffer which
+    /// hardly changes from case to case takes few bytes.
+    pub line: usize,
+    pub direction: u32,
+    pub number: u32,
+    pub before: Vec<Vec<u8>>,
+    pub after: Vec<Vec<u8>>,
 }
 
 /// A source of cases; the index says what is due, so that a file of enough cases has them all.
@@ -48,43 +62,71 @@ impl Case {
         (number, after)
     }
 
-    fn write(&self, out: &mut impl Write) -> io::Result<()> {
+    fn told(self) -> Told {
         let (number, after) = self.run();
-        out.write_all(&[self.call as u8])?;
-        out.write_all(&self.direction.to_be_bytes())?;
-        out.write_all(&number.to_be_bytes())?;
-        for (before, after) in self.buffers.iter().zip(&after) {
-            out.write_all(&(before.len() as u32).to_be_bytes())?;
-            out.write_all(before)?;
-            out.write_all(&[u8::from(before != after)])?;
-            if before != after {
-                out.write_all(after)?;
-            }
-        }
-        Ok(())
+        Told { call: self.call as u8, line: 0, direction: self.direction, number, before: self.buffers, after }
     }
 }
 
 /// Writes a case file to standard output; None when there is no such kind.
 pub fn write_file(kind: &str, count: usize, seed: u64) -> Option<bool> {
     let rng = Rng::new(seed);
-    let mut maker: Box<dyn Maker> = match kind {
-        "sbox" => Box::new(Sboxes::new(rng)),
-        "expand" => Box::new(Expansions::new(rng)),
-        "block" => Box::new(Blocks::new(rng)),
+    let mut source = match kind {
+        "sbox" => cases(Sboxes::new(rng)),
+        "expand" => cases(Expansions::new(rng)),
+        "block" => cases(Blocks::new(rng)),
+        "pool" => steps(Walk::new(rng)),
         _ => return None,
     };
-    Some(write_cases(maker.as_mut(), count).is_ok())
+    Some(write_cases(source.as_mut(), count).is_ok())
 }
 
-fn write_cases(maker: &mut dyn Maker, count: usize) -> io::Result<()> {
+type Source = dyn FnMut(usize) -> Told;
+
+fn cases(mut maker: impl Maker + 'static) -> Box<Source> {
+    Box::new(move |index| maker.case(index).told())
+}
+
+fn steps(mut walk: Walk) -> Box<Source> {
+    Box::new(move |_| walk.step())
+}
+
+fn write_cases(source: &mut Source, count: usize) -> io::Result<()> {
     let mut out = BufWriter::new(io::stdout().lock());
+    let mut lines: [Vec<Vec<u8>>; LINES] = Default::default();
     out.write_all(MAGIC)?;
     out.write_all(&(count as u64).to_be_bytes())?;
     for index in 0..count {
-        maker.case(index).write(&mut out)?;
+        let told = source(index);
+        out.write_all(&[told.call, told.line as u8])?;
+        out.write_all(&told.direction.to_be_bytes())?;
+        out.write_all(&told.number.to_be_bytes())?;
+        write_buffers(&mut out, &mut lines[told.line], &told)?;
     }
     out.flush()
+}
+
+/// Buffers past those of this call stay in the line as they were.
+fn write_buffers(out: &mut impl Write, line: &mut Vec<Vec<u8>>, told: &Told) -> io::Result<()> {
+    line.resize(line.len().max(told.before.len()), Vec::new());
+    for ((last, before), after) in line.iter_mut().zip(&told.before).zip(&told.after) {
+        out.write_all(&(before.len() as u32).to_be_bytes())?;
+        last.resize(before.len(), 0);
+        write_part(out, last, before)?;
+        write_part(out, before, after)?;
+        last.copy_from_slice(after);
+    }
+    Ok(())
+}
+
+/// What differs, from the first such byte to the last; both have the same length.
+fn write_part(out: &mut impl Write, old: &[u8], new: &[u8]) -> io::Result<()> {
+    let differs = || old.iter().zip(new).map(|(x, y)| x != y);
+    let start = differs().position(|yes| yes).unwrap_or(0);
+    let end = differs().rposition(|yes| yes).map_or(start, |last| last + 1);
+    out.write_all(&(start as u32).to_be_bytes())?;
+    out.write_all(&((end - start) as u32).to_be_bytes())?;
+    out.write_all(&new[start..end])
 }
 
 /// The first number of `order` that `defects` brings about.

@@ -10,7 +10,7 @@ use crate::strip;
 /// The order of refusal of a block call.
 pub const ORDER: [u32; 9] = [13, 6, 5, 7, 11, 8, 9, 12, 10];
 
-const KEY_SIZES: [usize; 3] = [16, 24, 32];
+pub const KEY_SIZES: [usize; 3] = [16, 24, 32];
 const GOOD_ROUND_KEYS: [usize; 3] = [176, 208, 240];
 
 pub struct Blocks {
@@ -84,7 +84,7 @@ fn round_keys(key_size: usize, good: bool, rng: &mut Rng) -> Vec<u8> {
 }
 
 /// Records that serve; at times the edges: all zero, or all bits set with third bytes 3.
-fn good_records(key_size: usize, rng: &mut Rng) -> Vec<u8> {
+pub fn good_records(key_size: usize, rng: &mut Rng) -> Vec<u8> {
     let mut records = strip::random_records(key_size, rng);
     match rng.below(16) {
         0 => records.fill(0),
@@ -95,7 +95,7 @@ fn good_records(key_size: usize, rng: &mut Rng) -> Vec<u8> {
     records
 }
 
-fn damaged_strip(defects: &[u32], key_size: usize, rng: &mut Rng) -> Vec<u8> {
+pub fn damaged_strip(defects: &[u32], key_size: usize, rng: &mut Rng) -> Vec<u8> {
     let mut records = good_records(key_size, rng);
     if defects.contains(&10) {
         spoil_records(&mut records, rng);

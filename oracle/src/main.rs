@@ -1,5 +1,5 @@
-//! The oracle: a second program for masked AES, written from the documents and sharing nothing
-//! with the library. It checks itself, writes cases for the replay, and counts the points.
+//! The oracle: a second program for masked AES and the pool of strips, written from the documents and
+//! sharing nothing with the library. It checks itself, writes cases for the replay, and counts the points.
 
 mod aes;
 mod calls;
@@ -9,8 +9,12 @@ mod case_expand;
 mod case_sbox;
 mod cipher;
 mod count;
+mod message;
 mod openssl;
 mod points;
+mod pool;
+mod pool_call;
+mod pool_selftest;
 mod refusal;
 mod rng;
 mod sbox;
@@ -21,12 +25,14 @@ mod svg;
 mod tally;
 mod tower;
 mod vectors;
+mod walk;
+mod walk_stray;
 
 use std::process::ExitCode;
 
 const USAGE: &str = "usage:
   oracle selftest
-  oracle cases sbox|expand|block COUNT SEED
+  oracle cases sbox|expand|block|pool COUNT SEED
   oracle count A      (A a tower byte in hex)
   oracle wrong A
   oracle svg

@@ -13,6 +13,11 @@ pub const STRIP_RECORD: u32 = 10;
 pub const SPENT: u32 = 11;
 pub const RECORD_COUNT: u32 = 12;
 pub const DIRECTION: u32 = 13;
+pub const FULL: u32 = 14;
+pub const EMPTY: u32 = 15;
+pub const MESSAGE: u32 = 16;
+pub const WAITING: u32 = 23;
+pub const USED_UP: u32 = 24;
 
 /// Each line says when a number applies; the order of the lines is the order of refusal.
 pub fn first(lines: &[(bool, u32)]) -> u32 {

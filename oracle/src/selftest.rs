@@ -1,5 +1,5 @@
 //! The oracle's checks of itself: document 01's examples and edges, FIPS 197's vectors, the tower
-//! against the AES field, masked calls against bare ones, and openssl where it is installed.
+//! against the AES field, masked calls against bare ones, the pool, and openssl where it is installed.
 
 use crate::aes;
 use crate::calls;
@@ -8,6 +8,7 @@ use crate::case_block::{self, Blocks};
 use crate::case_sbox::{self, Sboxes};
 use crate::openssl;
 use crate::points::{masked_inverse, masked_inversion, Order, Record};
+use crate::pool_selftest;
 use crate::rng::Rng;
 use crate::sbox::{masked_sbox, Direction};
 use crate::show::hex;
@@ -30,6 +31,7 @@ pub fn run() -> bool {
     edges(&mut tally, &mut rng);
     record_reader(&mut tally, &mut rng);
     refusals_in_order(&mut tally, &mut rng);
+    pool_selftest::run(&mut tally, &mut rng);
     openssl::compare(&mut tally, &mut rng);
     tally.report()
 }

@@ -54,6 +54,13 @@ pub fn check(strip: &[u8], key_size: usize) -> u32 {
     ])
 }
 
+/// The refusals of a strip on its own, with 9 for a key size that is none of the three: any of them
+/// differs from that one, and a good key size is held against itself.
+pub fn check_own(strip: &[u8]) -> u32 {
+    let named = strip.get(3).map(|&size| usize::from(size));
+    check(strip, named.filter(|&size| record_bytes(size).is_some()).unwrap_or(16))
+}
+
 /// The record reader: a part of the strip, empty when 7, 8 or 11 applies or the record is not there.
 pub fn record(strip: &[u8], index: usize) -> &[u8] {
     if !is_framed(strip) || strip[2] != FRESH || index >= records(strip).len() / RECORD {
