@@ -9,7 +9,6 @@ ghost use Rattle.message.specs.Message.{numberAt};
 ghost use Rattle.master.specs.State.{stateIn, stateBytes, gone, neverSent, sentTooMuch, impossible, noState, waiting, usedUp, noRoom, noneHeld, isStandby, sending, counts};
 use refusal::Check;
 use refusal::Outcome;
-use refusal::Refusal;
 
 // The roles: 0 active with nothing outstanding, 1 with an addition, 2 with a taking outstanding, 3 standby, 4 alone.
 // Strips are numbered one by one and the lowest is taken first, so the two counts say which are held and which number is next.
@@ -209,10 +208,10 @@ pub fn check_sending(master: State) -> Outcome
     ensures { λ r. ⌜ outcome r ≡ first ((23, waiting master) ∷ (24, usedUp master) ∷ []) refused (done tt) ⌝ }
 {
     let Check::Passed = check_waiting(master) else {
-        return Outcome::Refused(Refusal::Pool(23));
+        return refusal::pool(23);
     };
     let Check::Passed = check_numbers(master) else {
-        return Outcome::Refused(Refusal::Pool(24));
+        return refusal::pool(24);
     };
     Outcome::Done
 }

@@ -129,14 +129,14 @@ pub zeroed-length : (out : List ℕ) (j : Check) → failed j ≡ isNot 688 (len
 zeroed-length out j g q z i = ap length i ∙ length-replicate (length out) 0 ∙ passed-is 688 (length out) j g q
 
 module _ (st rooms out : List ℕ) (k : Check) (e : failed k ≡ notLent st (length rooms)) where
-  pub out-unlent : k ≡ Failed → _≡_ {A = Answer (Unit {0}) × List ℕ} (refused (refusal 6), out) (outstandingOf st rooms out)
+  pub out-unlent : (r : Answer (Unit {0})) → r ≡ refused (refusal 6) → k ≡ Failed → _≡_ {A = Answer (Unit {0}) × List ℕ} (r, out) (outstandingOf st rooms out)
   unfolding outstandingOf
-  out-unlent f = first-now 6 (either (notLent st (length rooms)) (isNot 688 (length out))) [] (λ r. (refused r, out)) _ (either-first (notLent st (length rooms)) (isNot 688 (length out)) k e f)
+  out-unlent x y f = rw y (first-now 6 (either (notLent st (length rooms)) (isNot 688 (length out))) [] (λ r. (refused r, out)) _ (either-first (notLent st (length rooms)) (isNot 688 (length out)) k e f))
 
   module _ (p : k ≡ Passed) (j : Check) (g : failed j ≡ isNot 688 (length out)) where
-    pub out-sized : j ≡ Failed → _≡_ {A = Answer (Unit {0}) × List ℕ} (refused (refusal 6), out) (outstandingOf st rooms out)
+    pub out-sized : (r : Answer (Unit {0})) → r ≡ refused (refusal 6) → j ≡ Failed → _≡_ {A = Answer (Unit {0}) × List ℕ} (r, out) (outstandingOf st rooms out)
     unfolding outstandingOf
-    out-sized f = first-now 6 (either (notLent st (length rooms)) (isNot 688 (length out))) [] (λ r. (refused r, out)) _ (either-second (notLent st (length rooms)) (isNot 688 (length out)) k true e p (sym (ap failed f) ∙ g))
+    out-sized x y f = rw y (first-now 6 (either (notLent st (length rooms)) (isNot 688 (length out))) [] (λ r. (refused r, out)) _ (either-second (notLent st (length rooms)) (isNot 688 (length out)) k true e p (sym (ap failed f) ∙ g)))
 
     module _ (q : j ≡ Passed) (m : State) (h : m ≡ stateIn st) where
       out-done : (new : List ℕ) → new ≡ padded 688 (messageOf m rooms) → (done tt, new) ≡ outstandingOf st rooms out
@@ -177,16 +177,15 @@ module _ (st rooms b number strip : List ℕ) (k : Check) (e : failed k ≡ notL
   abbrev refusing : Refusal → Answer (Unit {0}) × (List ℕ × (List ℕ × (List ℕ × List ℕ)))
   refusing r = (refused r, (st, (rooms, (number, strip))))
 
-  pub ack-unlent : k ≡ Failed → _≡_ {A = Answer (Unit {0}) × (List ℕ × (List ℕ × (List ℕ × List ℕ)))} (refused (refusal 6), (st, (rooms, (number, strip)))) (acknowledgeOf st rooms b number strip)
+  pub ack-unlent : (r : Answer (Unit {0})) → r ≡ refused (refusal 6) → k ≡ Failed → _≡_ {A = Answer (Unit {0}) × (List ℕ × (List ℕ × (List ℕ × List ℕ)))} (r, (st, (rooms, (number, strip)))) (acknowledgeOf st rooms b number strip)
   unfolding acknowledgeOf
-  ack-unlent f = first-now 6 (notLentOut st (length rooms) (length number) (length strip)) _ refusing _ (sym (ap failed f) ∙ e)
+  ack-unlent x y f = rw y (first-now 6 (notLentOut st (length rooms) (length number) (length strip)) _ refusing _ (sym (ap failed f) ∙ e))
 
   module _ (p : k ≡ Passed) (x : Message) (g : x ≡ readOf b) (j : Check) (h : failed j ≡ not (isAcknowledgement x)) where
-    pub ack-unread : j ≡ Failed → _≡_ {A = Answer (Unit {0}) × (List ℕ × (List ℕ × (List ℕ × List ℕ)))} (refused (refusal 16), (st, (rooms, (number, strip)))) (acknowledgeOf st rooms b number strip)
+    pub ack-unread : (r : Answer (Unit {0})) → r ≡ refused (refusal 16) → j ≡ Failed → _≡_ {A = Answer (Unit {0}) × (List ℕ × (List ℕ × (List ℕ × List ℕ)))} (r, (st, (rooms, (number, strip)))) (acknowledgeOf st rooms b number strip)
     unfolding acknowledgeOf
-    ack-unread f =
-        first-skip 6 (notLentOut st (length rooms) (length number) (length strip)) _ refusing _ (refusing (refusal 16)) (sym (ap failed p) ∙ e)
-        (first-now 16 (not (isAcknowledgement (readOf b))) [] refusing _ (sym (ap failed f) ∙ h ∙ ap (λ (y : Message). not (isAcknowledgement y)) g))
+    ack-unread x y f = rw y (first-skip 6 (notLentOut st (length rooms) (length number) (length strip)) _ refusing _ (refusing (refusal 16)) (sym (ap failed p) ∙ e)
+        (first-now 16 (not (isAcknowledgement (readOf b))) [] refusing _ (sym (ap failed f) ∙ h ∙ ap (λ (y : Message). not (isAcknowledgement y)) g)))
 
     module _ (q : j ≡ Passed) (m : State) (i : m ≡ stateIn st) (n : ℕ) (l : n ≡ sequence x) (t : Bool) (c : t ≡ counts m n) where
       ack-done : (new : List ℕ × (List ℕ × (List ℕ × List ℕ))) → new ≡ choose (counts m n) (settle m rooms strip) (st, handingNone rooms strip) → (done tt, new) ≡ acknowledgeOf st rooms b number strip
@@ -223,14 +222,14 @@ module _ (st rooms b ack : List ℕ) (k : Check) (e : failed k ≡ notLent st (l
   abbrev denying : Refusal → Answer (Unit {0}) × (List ℕ × (List ℕ × List ℕ))
   denying r = (refused r, (st, (rooms, ack)))
 
-  pub apply-unlent : k ≡ Failed → _≡_ {A = Answer (Unit {0}) × (List ℕ × (List ℕ × List ℕ))} (refused (refusal 6), (st, (rooms, ack))) (applyOf st rooms b ack)
+  pub apply-unlent : (r : Answer (Unit {0})) → r ≡ refused (refusal 6) → k ≡ Failed → _≡_ {A = Answer (Unit {0}) × (List ℕ × (List ℕ × List ℕ))} (r, (st, (rooms, ack))) (applyOf st rooms b ack)
   unfolding applyOf
-  apply-unlent f = first-now 6 (either (notLent st (length rooms)) (isNot 8 (length ack))) _ denying _ (either-first (notLent st (length rooms)) (isNot 8 (length ack)) k e f)
+  apply-unlent x y f = rw y (first-now 6 (either (notLent st (length rooms)) (isNot 8 (length ack))) _ denying _ (either-first (notLent st (length rooms)) (isNot 8 (length ack)) k e f))
 
   module _ (p : k ≡ Passed) (j : Check) (g : failed j ≡ isNot 8 (length ack)) where
-    pub apply-sized : j ≡ Failed → _≡_ {A = Answer (Unit {0}) × (List ℕ × (List ℕ × List ℕ))} (refused (refusal 6), (st, (rooms, ack))) (applyOf st rooms b ack)
+    pub apply-sized : (r : Answer (Unit {0})) → r ≡ refused (refusal 6) → j ≡ Failed → _≡_ {A = Answer (Unit {0}) × (List ℕ × (List ℕ × List ℕ))} (r, (st, (rooms, ack))) (applyOf st rooms b ack)
     unfolding applyOf
-    apply-sized f = first-now 6 (either (notLent st (length rooms)) (isNot 8 (length ack))) _ denying _ (either-second (notLent st (length rooms)) (isNot 8 (length ack)) k true e p (sym (ap failed f) ∙ g))
+    apply-sized x y f = rw y (first-now 6 (either (notLent st (length rooms)) (isNot 8 (length ack))) _ denying _ (either-second (notLent st (length rooms)) (isNot 8 (length ack)) k true e p (sym (ap failed f) ∙ g)))
 
     module _ (q : j ≡ Passed) (m : State) (h : m ≡ stateIn st) (x : Message) (i : x ≡ readOf b) (l : Check) (c : failed l ≡ notApplied m x (drop 12 b)) where
       lent-right : false ≡ either (notLent st (length rooms)) (isNot 8 (length ack))
@@ -239,11 +238,10 @@ module _ (st rooms b ack : List ℕ) (k : Check) (e : failed k ≡ notLent st (l
       asked : failed l ≡ notApplied (stateIn st) (readOf b) (drop 12 b)
       asked = c ∙ rw (h, i) refl
 
-      pub apply-refused : l ≡ Failed → _≡_ {A = Answer (Unit {0}) × (List ℕ × (List ℕ × List ℕ))} (refused (refusal 16), (st, (rooms, ack))) (applyOf st rooms b ack)
+      pub apply-refused : (r : Answer (Unit {0})) → r ≡ refused (refusal 16) → l ≡ Failed → _≡_ {A = Answer (Unit {0}) × (List ℕ × (List ℕ × List ℕ))} (r, (st, (rooms, ack))) (applyOf st rooms b ack)
       unfolding applyOf
-      apply-refused f =
-          first-skip 6 (either (notLent st (length rooms)) (isNot 8 (length ack))) _ denying _ (denying (refusal 16)) lent-right
-          (first-now 16 (notApplied (stateIn st) (readOf b) (drop 12 b)) [] denying _ (sym (ap failed f) ∙ asked))
+      apply-refused x y f = rw y (first-skip 6 (either (notLent st (length rooms)) (isNot 8 (length ack))) _ denying _ (denying (refusal 16)) lent-right
+          (first-now 16 (notApplied (stateIn st) (readOf b) (drop 12 b)) [] denying _ (sym (ap failed f) ∙ asked)))
 
       module _ (f : l ≡ Passed) (n : ℕ) (s : n ≡ sequence x) where
         apply-done : (new : List ℕ × List ℕ) (ack′ : List ℕ) → new ≡ choose (leb n (sent m)) (st, rooms) (applied m x (drop 12 b) rooms) → ack′ ≡ acknowledgement n → (done tt, (new .0, (new .1, ack′))) ≡ applyOf st rooms b ack
@@ -276,9 +274,9 @@ module _ (st rooms b ack : List ℕ) (k : Check) (e : failed k ≡ notLent st (l
 
 -- ---- going on alone
 module _ (st : List ℕ) (k : Check) (e : failed k ≡ noState st) where
-  pub alone-none : k ≡ Failed → _≡_ {A = Answer (Unit {0}) × List ℕ} (refused (refusal 6), st) (goAloneOf st)
+  pub alone-none : (r : Answer (Unit {0})) → r ≡ refused (refusal 6) → k ≡ Failed → _≡_ {A = Answer (Unit {0}) × List ℕ} (r, st) (goAloneOf st)
   unfolding goAloneOf
-  alone-none f = first-now 6 (either (noState st) (ltb (stateIn st .role) 3)) [] (λ r. (refused r, st)) _ (either-first (noState st) (ltb (stateIn st .role) 3) k e f)
+  alone-none x y f = rw y (first-now 6 (either (noState st) (ltb (stateIn st .role) 3)) [] (λ r. (refused r, st)) _ (either-first (noState st) (ltb (stateIn st .role) 3) k e f))
 
   module _ (p : k ≡ Passed) where
     pub alone-nine : length st ≡ 9
@@ -286,9 +284,9 @@ module _ (st : List ℕ) (k : Check) (e : failed k ≡ noState st) where
     alone-nine = passed-is 9 (length st) Passed (sym (neither (isNot 9 (length st)) (impossible (stateIn st)) (sym e ∙ ap failed p) .0)) refl
 
     module _ (m : State) (h : m ≡ stateIn st) where
-      pub alone-active : m .role < 3 → _≡_ {A = Answer (Unit {0}) × List ℕ} (refused (refusal 6), st) (goAloneOf st)
+      pub alone-active : (r : Answer (Unit {0})) → r ≡ refused (refusal 6) → m .role < 3 → _≡_ {A = Answer (Unit {0}) × List ℕ} (r, st) (goAloneOf st)
       unfolding goAloneOf
-      alone-active r = first-now 6 (either (noState st) (ltb (stateIn st .role) 3)) [] (λ r. (refused r, st)) _ (either-second (noState st) (ltb (stateIn st .role) 3) k true e p (sym (rw (← h) (lt-ltb (m .role) 3 r))))
+      alone-active x y r = rw y (first-now 6 (either (noState st) (ltb (stateIn st .role) 3)) [] (λ r. (refused r, st)) _ (either-second (noState st) (ltb (stateIn st .role) 3) k true e p (sym (rw (← h) (lt-ltb (m .role) 3 r)))))
 
       pub alone-done : (st′ : List ℕ) → 3 ≤ m .role → st′ ≡ stateBytes (record { role = 4; added = m .added; taken = m .taken }) → (done tt, st′) ≡ goAloneOf st
       unfolding goAloneOf withRole

@@ -14,7 +14,6 @@ ghost use Rattle.pool.specs.Calls.{notLent, notLentOut, addChecks, addOf
 use master::State;
 use refusal::Check;
 use refusal::Outcome;
-use refusal::Refusal;
 
 // 6
 fn check_lent(state: &[u8], rooms: usize) -> Check
@@ -48,7 +47,7 @@ fn check_strip(master: State, strip: &[u8]) -> Outcome
         return own;
     };
     let Check::Passed = master::check_room(master) else {
-        return Outcome::Refused(Refusal::Pool(14));
+        return refusal::pool(14);
     };
     Outcome::Done
 }
@@ -57,11 +56,11 @@ fn check_add(state: &[u8], rooms: usize, strip: &[u8]) -> Outcome
     ensures { λ r. ⌜ outcome r ≡ first (addChecks (now (state .entry)) rooms (now (strip .entry))) refused (done tt) ⌝ }
 {
     let Check::Passed = check_lent(state, rooms) else {
-        return Outcome::Refused(Refusal::Buffer(6));
+        return refusal::buffer(6);
     };
     let master = master::read(state);
     let Check::Passed = master::check_standby(master) else {
-        return Outcome::Refused(Refusal::Buffer(6));
+        return refusal::buffer(6);
     };
     let sending = master::check_sending(master);
     let Outcome::Done = sending else {
@@ -74,18 +73,18 @@ fn check_take(state: &[u8], rooms: usize, number: usize, strip: usize) -> Outcom
     ensures { λ r. ⌜ outcome r ≡ first (takeChecks (now (state .entry)) rooms number strip) refused (done tt) ⌝ }
 {
     let Check::Passed = check_lent_out(state, rooms, number, strip) else {
-        return Outcome::Refused(Refusal::Buffer(6));
+        return refusal::buffer(6);
     };
     let master = master::read(state);
     let Check::Passed = master::check_standby(master) else {
-        return Outcome::Refused(Refusal::Buffer(6));
+        return refusal::buffer(6);
     };
     let sending = master::check_sending(master);
     let Outcome::Done = sending else {
         return sending;
     };
     let Check::Passed = master::check_held(master) else {
-        return Outcome::Refused(Refusal::Pool(15));
+        return refusal::pool(15);
     };
     Outcome::Done
 }
@@ -137,10 +136,10 @@ pub fn outstanding(state: &[u8], rooms: &[u8], message: &mut [u8]) -> Outcome
     ensures { λ r. ⌜ (outcome r, now (message .exit)) ≡ outstandingOf (now (state .entry)) (now (rooms .entry)) (now (message .entry)) ⌝ }
 {
     let Check::Passed = check_lent(state, rooms.len()) else {
-        return Outcome::Refused(Refusal::Buffer(6));
+        return refusal::buffer(6);
     };
     let Check::Passed = refusal::check_length(message.len(), 688) else {
-        return Outcome::Refused(Refusal::Buffer(6));
+        return refusal::buffer(6);
     };
     let master = master::read(state);
     strip::zero(message);
@@ -190,11 +189,11 @@ pub fn acknowledge(
     ensures { λ r. ⌜ (outcome r, (now (state .exit), (now (rooms .exit), (now (number .exit), now (strip .exit))))) ≡ acknowledgeOf (now (state .entry)) (now (rooms .entry)) (now (acknowledgement .entry)) (now (number .entry)) (now (strip .entry)) ⌝ }
 {
     let Check::Passed = check_lent_out(state, rooms.len(), number.len(), strip.len()) else {
-        return Outcome::Refused(Refusal::Buffer(6));
+        return refusal::buffer(6);
     };
     let asked = message::read(acknowledgement);
     let Check::Passed = messages::check_acknowledgement(asked) else {
-        return Outcome::Refused(Refusal::Message(16));
+        return refusal::message(16);
     };
     let master = master::read(state);
     if master::counted(master, messages::sequence_of(asked)) {
@@ -215,15 +214,15 @@ pub fn apply(
     ensures { λ r. ⌜ (outcome r, (now (state .exit), (now (rooms .exit), now (acknowledgement .exit)))) ≡ applyOf (now (state .entry)) (now (rooms .entry)) (now (message .entry)) (now (acknowledgement .entry)) ⌝ }
 {
     let Check::Passed = check_lent(state, rooms.len()) else {
-        return Outcome::Refused(Refusal::Buffer(6));
+        return refusal::buffer(6);
     };
     let Check::Passed = refusal::check_length(acknowledgement.len(), 8) else {
-        return Outcome::Refused(Refusal::Buffer(6));
+        return refusal::buffer(6);
     };
     let master = master::read(state);
     let asked = message::read(message);
     let Check::Passed = messages::check_message(master, asked, message) else {
-        return Outcome::Refused(Refusal::Message(16));
+        return refusal::message(16);
     };
     let sequence = messages::sequence_of(asked);
     let answer = message::acknowledgement_bytes(sequence);
@@ -239,11 +238,11 @@ pub fn go_alone(state: &mut [u8]) -> Outcome
     ensures { λ r. ⌜ (outcome r, now (state .exit)) ≡ goAloneOf (now (state .entry)) ⌝ }
 {
     let Check::Passed = master::check(state) else {
-        return Outcome::Refused(Refusal::Buffer(6));
+        return refusal::buffer(6);
     };
     let master = master::read(state);
     if master.role < 3 {
-        return Outcome::Refused(Refusal::Buffer(6)); // an active master does not
+        return refusal::buffer(6); // an active master does not
     }
     let next = State {
         role: 4,

@@ -2,7 +2,8 @@
 ghost use mathlib.Core.Path.{_≡_};
 ghost use mathlib.Core.List.{[], _∷_};
 ghost use Rattle.refusal.specs.Refusal.{number, failed};
-ghost use Rattle.refusal.specs.Answer.{above, either, isNot, noneOf, answerNumber, outcome};
+ghost use Rattle.refusal.specs.Answer.{refused, above, either, isNot, noneOf, answerNumber, outcome};
+ghost use Rattle.refusal.specs.declared.Refusal.the-variants as kinds;
 
 pub enum Refusal {
     Operand(u8),
@@ -68,6 +69,25 @@ pub fn check_lengths(length: usize, one: usize, two: usize, three: usize) -> Che
         return Check::Passed;
     };
     check_length(length, three)
+}
+
+// The refusals that many calls give, by their kind.
+pub fn buffer(n: u8) -> Outcome
+    ensures { λ r. ⌜ outcome r ≡ refused (kinds.Buffer n) ⌝ }
+{
+    Outcome::Refused(Refusal::Buffer(n))
+}
+
+pub fn pool(n: u8) -> Outcome
+    ensures { λ r. ⌜ outcome r ≡ refused (kinds.Pool n) ⌝ }
+{
+    Outcome::Refused(Refusal::Pool(n))
+}
+
+pub fn message(n: u8) -> Outcome
+    ensures { λ r. ⌜ outcome r ≡ refused (kinds.Message n) ⌝ }
+{
+    Outcome::Refused(Refusal::Message(n))
 }
 
 fn wide(x: u8) -> u32

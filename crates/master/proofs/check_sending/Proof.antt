@@ -13,6 +13,9 @@ enum-told c = search needs
 enum-told-2 : tie.Need-enum-told-2
 enum-told-2 c = search needs
 
+pool-requires : tie.Need-pool-requires
+pool-requires c κs = search needs
+
 returns : tie.Need-returns
 returns c = search first-stop
 
@@ -24,6 +27,9 @@ enum-told-3 c = search needs
 
 enum-told-4 : tie.Need-enum-told-4
 enum-told-4 c = search needs
+
+pool-requires-2 : tie.Need-pool-requires-2
+pool-requires-2 c κs = search needs
 
 returns-2 : tie.Need-returns-2
 returns-2 c = search (first-on, first-stop)
@@ -38,9 +44,11 @@ check-sending-spec =
     check-waiting-requires
     enum-told
     enum-told-2
+    pool-requires
     returns
     check-numbers-requires
     enum-told-3
     enum-told-4
+    pool-requires-2
     returns-2
     returns-3)

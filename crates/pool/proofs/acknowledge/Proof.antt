@@ -14,11 +14,14 @@ enum-told c = search needs
 enum-told-2 : tie.Need-enum-told-2
 enum-told-2 c = search needs
 
+buffer-requires : tie.Need-buffer-requires
+buffer-requires c κs = search needs
+
 same-length : tie.Need-same-length
 same-length c = search needs
 
 returns : tie.Need-returns
-returns c = ack-unlent (c .before .before .before .before .before .before .before .before .before .args .state .now) (c .before .before .before .before .before .before .before .before .before .args .rooms .now) (c .before .before .before .before .before .before .before .before .before .args .acknowledgement .now) (c .before .before .before .before .before .before .before .before .before .args .number .now) (c .before .before .before .before .before .before .before .before .before .args .strip .now) _ (c .before .before .check-lent-out .ensures) (c .enum-told2 .given .1)
+returns c = ack-unlent (c .before .before .before .before .before .before .before .before .before .before .args .state .now) (c .before .before .before .before .before .before .before .before .before .before .args .rooms .now) (c .before .before .before .before .before .before .before .before .before .before .args .acknowledgement .now) (c .before .before .before .before .before .before .before .before .before .before .args .number .now) (c .before .before .before .before .before .before .before .before .before .before .args .strip .now) _ (c .before .before .before .check-lent-out .ensures) _ (c .buffer .ensures) (c .before .enum-told2 .given .1)
 
 read-requires : tie.Need-read-requires
 read-requires c κs = search needs
@@ -32,11 +35,14 @@ enum-told-3 c = search needs
 enum-told-4 : tie.Need-enum-told-4
 enum-told-4 c = search needs
 
+message-requires : tie.Need-message-requires
+message-requires c κs = search needs
+
 same-length-2 : tie.Need-same-length-2
 same-length-2 c = search needs
 
 returns-2 : tie.Need-returns-2
-returns-2 c = ack-unread (c .before .before .before .before .before .before .before .before .before .before .before .before .before .args .state .now) (c .before .before .before .before .before .before .before .before .before .before .before .before .before .args .rooms .now) (c .before .before .before .before .before .before .before .before .before .before .before .before .before .args .acknowledgement .now) (c .before .before .before .before .before .before .before .before .before .before .before .before .before .args .number .now) (c .before .before .before .before .before .before .before .before .before .before .before .before .before .args .strip .now) _ (c .before .before .before .before .before .before .check-lent-out .ensures) (c .before .before .before .before .enum-told .given .1) _ (c .before .before .before .read .ensures) _ (c .before .before .check-acknowledgement .ensures) (c .enum-told4 .given .1)
+returns-2 c = ack-unread (c .before .before .before .before .before .before .before .before .before .before .before .before .before .before .args .state .now) (c .before .before .before .before .before .before .before .before .before .before .before .before .before .before .args .rooms .now) (c .before .before .before .before .before .before .before .before .before .before .before .before .before .before .args .acknowledgement .now) (c .before .before .before .before .before .before .before .before .before .before .before .before .before .before .args .number .now) (c .before .before .before .before .before .before .before .before .before .before .before .before .before .before .args .strip .now) _ (c .before .before .before .before .before .before .before .check-lent-out .ensures) (c .before .before .before .before .before .enum-told .given .1) _ (c .before .before .before .before .read .ensures) _ (c .before .before .before .check-acknowledgement .ensures) _ (c .message .ensures) (c .before .enum-told4 .given .1)
 
 read-requires-2 : tie.Need-read-requires-2
 read-requires-2 c κs = search needs
@@ -84,12 +90,14 @@ acknowledge-spec =
     check-lent-out-requires
     enum-told
     enum-told-2
+    buffer-requires
     same-length
     returns
     read-requires
     check-acknowledgement-requires
     enum-told-3
     enum-told-4
+    message-requires
     same-length-2
     returns-2
     read-requires-2

@@ -15,11 +15,14 @@ enum-told c = search needs
 enum-told-2 : tie.Need-enum-told-2
 enum-told-2 c = search needs
 
+buffer-requires : tie.Need-buffer-requires
+buffer-requires c κs = search needs
+
 same-length : tie.Need-same-length
 same-length c = search needs
 
 returns : tie.Need-returns
-returns c = apply-unlent (c .before .before .before .before .before .before .before .before .args .state .now) (c .before .before .before .before .before .before .before .before .args .rooms .now) (c .before .before .before .before .before .before .before .before .args .message .now) (c .before .before .before .before .before .before .before .before .args .acknowledgement .now) _ (c .before .before .check-lent .ensures) (c .enum-told2 .given .1)
+returns c = apply-unlent (c .before .before .before .before .before .before .before .before .before .args .state .now) (c .before .before .before .before .before .before .before .before .before .args .rooms .now) (c .before .before .before .before .before .before .before .before .before .args .message .now) (c .before .before .before .before .before .before .before .before .before .args .acknowledgement .now) _ (c .before .before .before .check-lent .ensures) _ (c .buffer .ensures) (c .before .enum-told2 .given .1)
 
 check-length-requires : tie.Need-check-length-requires
 check-length-requires c κs = search needs
@@ -30,11 +33,14 @@ enum-told-3 c = search needs
 enum-told-4 : tie.Need-enum-told-4
 enum-told-4 c = search needs
 
+buffer-requires-2 : tie.Need-buffer-requires-2
+buffer-requires-2 c κs = search needs
+
 same-length-2 : tie.Need-same-length-2
 same-length-2 c = search needs
 
 returns-2 : tie.Need-returns-2
-returns-2 c = apply-sized (c .before .before .before .before .before .before .before .before .before .before .before .args .state .now) (c .before .before .before .before .before .before .before .before .before .before .before .args .rooms .now) (c .before .before .before .before .before .before .before .before .before .before .before .args .message .now) (c .before .before .before .before .before .before .before .before .before .before .before .args .acknowledgement .now) _ (c .before .before .before .before .before .check-lent .ensures) (c .before .before .before .enum-told .given .1) _ (c .before .before .check-length .ensures) (c .enum-told4 .given .1)
+returns-2 c = apply-sized (c .before .before .before .before .before .before .before .before .before .before .before .before .args .state .now) (c .before .before .before .before .before .before .before .before .before .before .before .before .args .rooms .now) (c .before .before .before .before .before .before .before .before .before .before .before .before .args .message .now) (c .before .before .before .before .before .before .before .before .before .before .before .before .args .acknowledgement .now) _ (c .before .before .before .before .before .before .check-lent .ensures) (c .before .before .before .before .enum-told .given .1) _ (c .before .before .before .check-length .ensures) _ (c .buffer2 .ensures) (c .before .enum-told4 .given .1)
 
 read-requires : tie.Need-read-requires
 read-requires c κs = search needs
@@ -51,11 +57,14 @@ enum-told-5 c = search needs
 enum-told-6 : tie.Need-enum-told-6
 enum-told-6 c = search needs
 
+message-requires : tie.Need-message-requires
+message-requires c κs = search needs
+
 same-length-3 : tie.Need-same-length-3
 same-length-3 c = search needs
 
 returns-3 : tie.Need-returns-3
-returns-3 c = apply-refused (c .before .before .before .before .before .before .before .before .before .before .before .before .before .before .before .before .before .args .state .now) (c .before .before .before .before .before .before .before .before .before .before .before .before .before .before .before .before .before .args .rooms .now) (c .before .before .before .before .before .before .before .before .before .before .before .before .before .before .before .before .before .args .message .now) (c .before .before .before .before .before .before .before .before .before .before .before .before .before .before .before .before .before .args .acknowledgement .now) _ (c .before .before .before .before .before .before .before .before .before .before .before .check-lent .ensures) (c .before .before .before .before .before .before .before .before .before .enum-told .given .1) _ (c .before .before .before .before .before .before .before .before .check-length .ensures) (c .before .before .before .before .before .before .enum-told3 .given .1) _ (c .before .before .before .before .read .ensures) _ (c .before .before .before .read2 .ensures) _ (c .before .before .check-message .ensures) (c .enum-told6 .given .1)
+returns-3 c = apply-refused (c .before .before .before .before .before .before .before .before .before .before .before .before .before .before .before .before .before .before .args .state .now) (c .before .before .before .before .before .before .before .before .before .before .before .before .before .before .before .before .before .before .args .rooms .now) (c .before .before .before .before .before .before .before .before .before .before .before .before .before .before .before .before .before .before .args .message .now) (c .before .before .before .before .before .before .before .before .before .before .before .before .before .before .before .before .before .before .args .acknowledgement .now) _ (c .before .before .before .before .before .before .before .before .before .before .before .before .check-lent .ensures) (c .before .before .before .before .before .before .before .before .before .before .enum-told .given .1) _ (c .before .before .before .before .before .before .before .before .before .check-length .ensures) (c .before .before .before .before .before .before .before .enum-told3 .given .1) _ (c .before .before .before .before .before .read .ensures) _ (c .before .before .before .before .read2 .ensures) _ (c .before .before .before .check-message .ensures) _ (c .message .ensures) (c .before .enum-told6 .given .1)
 
 sequence-of-requires : tie.Need-sequence-of-requires
 sequence-of-requires c κs = search needs
@@ -112,11 +121,13 @@ apply-spec =
     check-lent-requires
     enum-told
     enum-told-2
+    buffer-requires
     same-length
     returns
     check-length-requires
     enum-told-3
     enum-told-4
+    buffer-requires-2
     same-length-2
     returns-2
     read-requires
@@ -124,6 +135,7 @@ apply-spec =
     check-message-requires
     enum-told-5
     enum-told-6
+    message-requires
     same-length-3
     returns-3
     sequence-of-requires

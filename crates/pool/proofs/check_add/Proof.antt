@@ -1,5 +1,5 @@
 -- `pool::check_add` meets its contract: from what is lent, 23, 24, the strip's own and 14. Assumes nothing.
-use mathlib.Core.Path.{refl}
+use mathlib.Core.Path.{refl, _∙_}
 use borrow.Author.Needs.{needs}
 use Rattle.pool.proofs.Admitted.{may-add}
 use Rattle.pool.proofs.Admitted.{unlent, from-standby, held-back}
@@ -15,8 +15,11 @@ enum-told c = search needs
 enum-told-2 : tie.Need-enum-told-2
 enum-told-2 c = search needs
 
+buffer-requires : tie.Need-buffer-requires
+buffer-requires c κs = search needs
+
 returns : tie.Need-returns
-returns c = unlent _ _ _ _ (c .before .before .check-lent .ensures) (c .enum-told2 .given .1)
+returns c = (c .buffer .ensures) ∙ unlent _ _ _ _ (c .before .before .before .check-lent .ensures) (c .before .enum-told2 .given .1)
 
 read-requires : tie.Need-read-requires
 read-requires c κs = search needs
@@ -30,8 +33,11 @@ enum-told-3 c = search needs
 enum-told-4 : tie.Need-enum-told-4
 enum-told-4 c = search needs
 
+buffer-requires-2 : tie.Need-buffer-requires-2
+buffer-requires-2 c κs = search needs
+
 returns-2 : tie.Need-returns-2
-returns-2 c = from-standby _ _ _ _ (c .before .before .before .before .before .before .check-lent .ensures) (c .before .before .before .before .enum-told .given .1) _ (c .before .before .before .read .ensures) _ (c .before .before .check-standby .ensures) (c .enum-told4 .given .1)
+returns-2 c = (c .buffer2 .ensures) ∙ from-standby _ _ _ _ (c .before .before .before .before .before .before .before .check-lent .ensures) (c .before .before .before .before .before .enum-told .given .1) _ (c .before .before .before .before .read .ensures) _ (c .before .before .before .check-standby .ensures) (c .before .enum-told4 .given .1)
 
 check-sending-requires : tie.Need-check-sending-requires
 check-sending-requires c κs = search needs
@@ -58,11 +64,13 @@ check-add-spec =
     check-lent-requires
     enum-told
     enum-told-2
+    buffer-requires
     returns
     read-requires
     check-standby-requires
     enum-told-3
     enum-told-4
+    buffer-requires-2
     returns-2
     check-sending-requires
     enum-told-5

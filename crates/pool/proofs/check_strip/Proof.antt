@@ -1,4 +1,5 @@
 -- `pool::check_strip` meets its contract: from the strip's own check, then 14. Assumes nothing.
+use mathlib.Core.Path.{_∙_}
 use borrow.Author.Needs.{needs}
 use Rattle.pool.proofs.Admitted.{strip-refused, strip-full, strip-fits}
 use Rattle.pool.proofs.check_strip.Statement.{statement}
@@ -25,8 +26,11 @@ enum-told-3 c = search needs
 enum-told-4 : tie.Need-enum-told-4
 enum-told-4 c = search needs
 
+pool-requires : tie.Need-pool-requires
+pool-requires c κs = search needs
+
 returns-2 : tie.Need-returns-2
-returns-2 c = strip-full _ _ _ (c .before .before .before .before .before .check-own .ensures) (c .before .before .before .enum-told .given .1) _ (c .before .before .check-room .ensures) (c .enum-told4 .given .1)
+returns-2 c = (c .pool .ensures) ∙ strip-full _ _ _ (c .before .before .before .before .before .before .check-own .ensures) (c .before .before .before .before .enum-told .given .1) _ (c .before .before .before .check-room .ensures) (c .before .enum-told4 .given .1)
 
 returns-3 : tie.Need-returns-3
 returns-3 c = strip-fits _ _ _ (c .before .before .before .before .before .check-own .ensures) (c .before .before .before .enum-told .given .1) _ (c .before .before .check-room .ensures) (c .enum-told3 .given .1)
@@ -42,5 +46,6 @@ check-strip-spec =
     check-room-requires
     enum-told-3
     enum-told-4
+    pool-requires
     returns-2
     returns-3)

@@ -14,20 +14,26 @@ enum-told c = search needs
 enum-told-2 : tie.Need-enum-told-2
 enum-told-2 c = search needs
 
+buffer-requires : tie.Need-buffer-requires
+buffer-requires c κs = search needs
+
 same-length : tie.Need-same-length
 same-length c = search needs
 
 returns : tie.Need-returns
-returns c = alone-none (c .before .before .before .before .before .args .state .now) _ (c .before .before .check .ensures) (c .enum-told2 .given .1)
+returns c = alone-none (c .before .before .before .before .before .before .args .state .now) _ (c .before .before .before .check .ensures) _ (c .buffer .ensures) (c .before .enum-told2 .given .1)
 
 read-requires : tie.Need-read-requires
 read-requires c κs = search needs
+
+buffer-requires-2 : tie.Need-buffer-requires-2
+buffer-requires-2 c κs = search needs
 
 same-length-2 : tie.Need-same-length-2
 same-length-2 c = search needs
 
 returns-2 : tie.Need-returns-2
-returns-2 c = alone-active (c .before .before .before .before .before .before .before .before .before .args .state .now) _ (c .before .before .before .before .before .before .check .ensures) (c .before .before .before .before .enum-told .given .1) _ (c .before .before .read .ensures) (omega arith)
+returns-2 c = alone-active (c .before .before .before .before .before .before .before .before .before .before .args .state .now) _ (c .before .before .before .before .before .before .before .check .ensures) (c .before .before .before .before .before .enum-told .given .1) _ (c .before .before .before .read .ensures) _ (c .buffer2 .ensures) (omega arith)
 
 write-state-requires : tie.Need-write-state-requires
 write-state-requires c κs = alone-nine (c .before .before .before .before .before .before .before .before .before .before .args .state .now) _ (c .before .before .before .before .before .before .before .check .ensures) (c .before .before .before .before .before .enum-told .given .1)
@@ -45,9 +51,11 @@ go-alone-spec =
     check-requires
     enum-told
     enum-told-2
+    buffer-requires
     same-length
     returns
     read-requires
+    buffer-requires-2
     same-length-2
     returns-2
     write-state-requires

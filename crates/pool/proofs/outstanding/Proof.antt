@@ -15,8 +15,11 @@ enum-told c = search needs
 enum-told-2 : tie.Need-enum-told-2
 enum-told-2 c = search needs
 
+buffer-requires : tie.Need-buffer-requires
+buffer-requires c κs = search needs
+
 returns : tie.Need-returns
-returns c = out-unlent (c .before .before .before .before .before .before .args .state .now) (c .before .before .before .before .before .before .args .rooms .now) (c .before .before .before .before .before .before .args .message .now) _ (c .before .before .check-lent .ensures) (c .enum-told2 .given .1)
+returns c = out-unlent (c .before .before .before .before .before .before .before .args .state .now) (c .before .before .before .before .before .before .before .args .rooms .now) (c .before .before .before .before .before .before .before .args .message .now) _ (c .before .before .before .check-lent .ensures) _ (c .buffer .ensures) (c .before .enum-told2 .given .1)
 
 check-length-requires : tie.Need-check-length-requires
 check-length-requires c κs = search needs
@@ -27,8 +30,11 @@ enum-told-3 c = search needs
 enum-told-4 : tie.Need-enum-told-4
 enum-told-4 c = search needs
 
+buffer-requires-2 : tie.Need-buffer-requires-2
+buffer-requires-2 c κs = search needs
+
 returns-2 : tie.Need-returns-2
-returns-2 c = out-sized (c .before .before .before .before .before .before .before .before .before .args .state .now) (c .before .before .before .before .before .before .before .before .before .args .rooms .now) (c .before .before .before .before .before .before .before .before .before .args .message .now) _ (c .before .before .before .before .before .check-lent .ensures) (c .before .before .before .enum-told .given .1) _ (c .before .before .check-length .ensures) (c .enum-told4 .given .1)
+returns-2 c = out-sized (c .before .before .before .before .before .before .before .before .before .before .args .state .now) (c .before .before .before .before .before .before .before .before .before .before .args .rooms .now) (c .before .before .before .before .before .before .before .before .before .before .args .message .now) _ (c .before .before .before .before .before .before .check-lent .ensures) (c .before .before .before .before .enum-told .given .1) _ (c .before .before .before .check-length .ensures) _ (c .buffer2 .ensures) (c .before .enum-told4 .given .1)
 
 read-requires : tie.Need-read-requires
 read-requires c κs = search needs
@@ -70,10 +76,12 @@ outstanding-spec =
     check-lent-requires
     enum-told
     enum-told-2
+    buffer-requires
     returns
     check-length-requires
     enum-told-3
     enum-told-4
+    buffer-requires-2
     returns-2
     read-requires
     zero-requires
