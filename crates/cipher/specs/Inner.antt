@@ -5,7 +5,7 @@ use mathlib.Core.List.{List}
 use mathlib.Core.Bool.{Bool, true, false}
 use lib.ListN.{length, getD}
 use lib.Dec.{eqb}
-use Rattle.fips197.specs.Cipher.{cell, state, shiftRows, mixColumns, addRoundKey, invShiftRows, invMixColumns}
+use Rattle.fips197.specs.Cipher.{cell, state, shiftRows, mixColumns, addRoundKey, invShiftRows, invMixColumns, choose}
 use Rattle.strip.specs.Strip.{recordPart}
 use Rattle.sbox.specs.declared.Direction.{Direction}
 use Rattle.sbox.specs.declared.Direction.the-variants.{Encrypt, Decrypt}
@@ -18,10 +18,6 @@ Parts = List ℕ × List ℕ
 
 abbrev pub each : (List ℕ → List ℕ) → Parts → Parts
 each f b = (f (b .0), f (b .1))
-
-abbrev pub choose : Bool → List ℕ → List ℕ → List ℕ
-choose true x y = x
-choose false x y = y
 
 -- what the check has shown: the first n records are there, their third bytes at most 3
 pub record Ready (s : List ℕ) (n : ℕ) : Type 0 where
