@@ -11,21 +11,6 @@ ghost use lib.ListN.{length};
 use steps::Play;
 use words::Word;
 
-// Where the line ends that begins at a place: its newline, or the end of the text.
-fn line_end(text: &[u8], start: usize) -> usize
-    requires { ⌜ start < length (now text) ⌝ }
-    ensures { λ r. ⌜ (start ≤ r) × (r ≤ length (now (text .entry))) ⌝ }
-{
-    let mut at = start;
-    while at < text.len() {
-        if text[at] == b'\n' {
-            return at;
-        }
-        at += 1;
-    }
-    at
-}
-
 // One step: it is done, and its line ends with what each master holds then.
 fn play_step(play: Play, word: Word, number: u32) -> Play {
     let next = steps::step(play, word, number);
@@ -55,7 +40,7 @@ fn play_script(text: &[u8]) {
     let mut number: u32 = 0;
     let mut start = 0;
     while start < text.len() {
-        let end = line_end(text, start);
+        let end = bytes::scan::find(text, start, text.len(), b'\n');
         let last = words::trimmed(&text[start..end]);
         let line = &text[start..start + last];
         start = end + 1;

@@ -124,23 +124,9 @@ fn decimal(text: &[u8]) -> u32 {
     n
 }
 
-// Where the first space stands; the length where there is none.
-fn word_end(line: &[u8]) -> usize
-    ensures { λ r. ⌜ r ≤ length (now (line .entry)) ⌝ }
-{
-    let mut at = 0;
-    while at < line.len() {
-        if line[at] == b' ' {
-            return at;
-        }
-        at += 1;
-    }
-    at
-}
-
 // The step that a line holds. A number is missing, is none or is out of range: the word is unknown.
 pub fn read(line: &[u8]) -> Step {
-    let end = word_end(line);
+    let end = bytes::scan::find(line, 0, line.len(), b' ');
     if end == line.len() {
         return Step {
             word: plain(line),

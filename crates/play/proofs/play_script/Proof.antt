@@ -17,8 +17,8 @@ new-requires c κs = search needs
 loop-holds : tie.Need-loop-holds Inv-loop μ-loop
 loop-holds c = search needs
 
-line-end-requires : tie.Need-line-end-requires Inv-loop μ-loop
-line-end-requires c κs = search needs
+find-requires : tie.Need-find-requires Inv-loop μ-loop
+find-requires c κs = search needs
 
 sub-trimmed : tie.Need-sub-trimmed Inv-loop μ-loop
 sub-trimmed c = search needs
@@ -82,7 +82,7 @@ play-script-spec =
     μ-loop
     new-requires
     loop-holds
-    line-end-requires
+    find-requires
     sub-trimmed
     part-trimmed-start
     part-trimmed-end

@@ -6,8 +6,8 @@ use borrow.Author.Needs.{needs}
 use Rattle.play.proofs.words.read.Statement.{statement}
 use Rattle.play.proofs.words.read.Tie as tie
 
-word-end-requires : tie.Need-word-end-requires
-word-end-requires c κs = search needs
+find-requires : tie.Need-find-requires
+find-requires c κs = search needs
 
 plain-requires : tie.Need-plain-requires
 plain-requires c κs = search needs
@@ -46,7 +46,7 @@ pub read-spec : {M : Type 1} → statement M
 read-spec =
     tie.close
     (tie.spec
-    word-end-requires
+    find-requires
     plain-requires
     returns
     add-decimal
