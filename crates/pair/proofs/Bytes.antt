@@ -12,9 +12,9 @@ use borrow.Author.Tests.{le-ltb, eq-eqb, ne-eqb, eqb-true, not-false}
 use Rattle.refusal.specs.Answer.{done, first, isNot, noneOf, passes}
 use Rattle.refusal.specs.declared.Outcome.the-variants.{Done}
 use Rattle.refusal.specs.declared.Check.the-variants.{Passed}
-use Rattle.refusal.proofs.First.{neither, found}
+use Rattle.refusal.proofs.First.{passed-is, neither, passes-done}
 use Rattle.strip.specs.Strip.{lengthField, keySize, badFraming, spent, unknownVersion, wrongRecordBytes, badRecord, ownChecks, formOf}
-use Rattle.strip.proofs.Good.{Fit, good}
+use Rattle.strip.proofs.Good.{unspoilt, own-short}
 use Rattle.message.specs.Message.{numberBytes, numberAt, frontBytes, addition, taking, acknowledgement, misframed, isOf, readOf}
 use Rattle.message.proofs.Laws.{adds}
 use Rattle.message.specs.declared.Message.the-variants.{Adds, Takes, Acknowledges}
@@ -44,10 +44,6 @@ number-back k h = joined k h
 
 -- ---- states
 module _ (m : State) where
-  pub state-length : length (stateBytes m) ≡ 9
-  unfolding stateBytes numberBytes
-  state-length = refl
-
   pub state-back : m .added ≤ most → m .taken ≤ most → stateIn (stateBytes m) ≡ m
   unfolding stateIn stateBytes numberAt numberBytes
   state-back a t = rw (joined (m .added) a, joined (m .taken) t) refl
@@ -134,21 +130,14 @@ pub record Good (s : List ℕ) : Type 0 where
   pub short : length s ≤ 676
   pub framed : lengthField s + 2 ≡ length s
 
--- a strip of one of the three key sizes is one of a block's
+-- a strip that passed its own checks
 pub own-good : (s : List ℕ) → passes (ownChecks s) ≡ true → Good s
-unfolding badFraming first
+unfolding badFraming
 own-good s e =
     let p7 = passes-first 7 (badFraming s) _ e in
-    let p11 = passes-first 11 (spent s) _ (p7 .1) in
-    let p8 = passes-first 8 (unknownVersion s) _ (p11 .1) in
-    let p9 = passes-first 9 (noneOf (16 ∷ 24 ∷ 32 ∷ []) (keySize s)) _ (p8 .1) in
-    let p12 = passes-first 12 (wrongRecordBytes s) _ (p9 .1) in
-    let p10 = passes-first 10 (badRecord s) _ (p12 .1) in
-    let size : keySize s ≤ 32 = found 16 24 32 (keySize s) Passed (sym (p9 .0)) refl (λ x. omega arith) (λ x. omega arith) (λ x. omega arith) in
-    let form : done tt ≡ formOf s (keySize s) = simp (p7 .0, p11 .0, p8 .0, eq-eqb (keySize s) (keySize s) refl, p12 .0, p10 .0) in
-    let fit : Fit s (keySize s) = good s (keySize s) Done form refl in
-    let field : lengthField s ≡ length s - 2 = eqb-true (lengthField s) (length s - 2) (not-false _ (neither (ltb (length s) 4) _ (p7 .0) .1)) in
-    record { long = fit .long; short = omega (arith, fit .bytes); framed = omega (arith, fit .long) }
+    let long : 4 ≤ length s = unspoilt s (p7 .0) in
+    let field : lengthField s ≡ length s - 2 = passed-is (length s - 2) (lengthField s) Passed (sym (neither (ltb (length s) 4) _ (p7 .0) .1)) refl in
+    record { long = long; short = own-short s (passes-done (ownChecks s) e); framed = omega arith }
 
 -- and it is read back from its room
 pub strip-back : (s : List ℕ) → Good s → stripIn (padded 676 s) ≡ s

@@ -2,7 +2,7 @@
 use Prim.Native.Nat.{ℕ, zero, suc, _+_, _-_, _<_, _≤_}
 use native.Mathlib.Omega.{arith}
 use native.Mathlib.Numerals.{add-one}
-use mathlib.Core.Path.{_≡_, refl, ap, _∙_}
+use mathlib.Core.Path.{_≡_, refl, ap, _∙_, sym}
 use mathlib.Core.List.{List, [], _∷_, _++_}
 use mathlib.Core.Bool.{Bool, true, false}
 use lib.ListN.{length, replicate}
@@ -21,7 +21,8 @@ use Rattle.pool.specs.Rooms.{roomAt, filled, cleared, stripIn}
 use Rattle.pool.specs.Calls.{notLent, notLentOut, oneMore, oneTaken}
 use Rattle.pair.specs.Pair.{Cabinet, handedIn, heldIn, poolIn}
 use Rattle.pair.proofs.Rooms.{Filled, next-filled, first-cleared, filled-here, filled-held, cleared-held, held-length, held-more}
-use Rattle.pair.proofs.Bytes.{number-back, Good, strip-back, state-length, state-back}
+use Rattle.master.proofs.Laws.{state-length, gone-other}
+use Rattle.pair.proofs.Bytes.{number-back, Good, strip-back, state-back}
 
 -- ---- a sound state, of a role from low to high: an outstanding message was sent, numbers fit their four bytes, and the rooms that strips have left are zero
 pub record Sound (low high : ℕ) (m : State) (rooms : List ℕ) : Type 0 where
@@ -139,8 +140,7 @@ module _ (m : State) (rooms : List ℕ) where
 
 -- ---- soundness after an addition, and after a taking that leaves its room at once
 pub gone-is : (m : State) → (m .role ≡ pool.taking → ⊥) → gone m ≡ m .taken
-unfolding gone
-gone-is m h = rw (ne-eqb (m .role) pool.taking h) refl
+gone-is m h = sym (gone-other m h)
 
 module _ (m : State) {rooms : List ℕ} (v : Filled (m .taken) (m .added) rooms) (low high role : ℕ) (least : low ≤ role) (greatest : role ≤ high) (here : role ≡ pool.taking → ⊥) where
   pub more-sound : (s : List ℕ) → length s ≤ 676 → m .added - m .taken < 64 → m .added < most → ((role ≡ pool.alone → ⊥) → m .added + m .taken < most)

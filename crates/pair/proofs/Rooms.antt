@@ -69,10 +69,6 @@ module _ (rooms : List ℕ) (n : ℕ) (room : List ℕ) (size : length rooms ≡
       (λ t. over-before rooms room (676 * (n % 64)) 676 place full (676 * (m % 64)) (omega (arith, ltb-true (m % 64) (n % 64) t)))
       (λ f. over-behind rooms room (676 * (n % 64)) 676 place full (676 * (m % 64)) (omega (arith, h, ltb-false (m % 64) (n % 64) f)))
 
-pub room-length : (rooms : List ℕ) (n : ℕ) → length rooms ≡ roomsSize → length (roomAt rooms n) ≡ 676
-unfolding roomAt
-room-length rooms n size = length-take-le 676 (drop (676 * (n % 64)) rooms) (simp length-drop (omega arith))
-
 room-mod : (rooms : List ℕ) (m n : ℕ) → m % 64 ≡ n % 64 → roomAt rooms m ≡ roomAt rooms n
 unfolding roomAt
 room-mod rooms m n e = rw e refl

@@ -1,25 +1,25 @@
 -- The checks of the calls: what they answer, and what a call may rely on when all have passed. Assumes nothing.
-use Prim.Native.Nat.{ℕ, _+_, _-_, _<_, _≤_}
-use native.Mathlib.Omega.{arith}
+use Prim.Native.Nat.{ℕ, _+_, _-_, _≤_}
 use mathlib.Core.Path.{_≡_, refl, sym, ap, _∙_}
 use mathlib.Core.List.{List, [], _∷_, _++_}
 use mathlib.Core.Bool.{Bool, true, false}
 use lib.ListN.{length}
-use lib.Dec.{eqb, ltb}
-use borrow.Author.Tests.{ltb-false, eqb-true, eqb-false, not-false, ne-eqb, eq-eqb}
+use lib.Dec.{ltb}
+use borrow.Author.Tests.{ltb-false, ne-eqb}
 use Rattle.refusal.specs.Refusal.{refusal, failed}
-use Rattle.refusal.specs.Answer.{Answer, done, refused, first, above, either, both, isNot, outcome}
+use Rattle.refusal.specs.Answer.{Answer, done, refused, first, above, either, isNot, outcome}
 use Rattle.refusal.specs.declared.Refusal.{Refusal}
 use Rattle.refusal.specs.declared.Check.{Check}
 use Rattle.refusal.specs.declared.Check.the-variants.{Passed, Failed}
 use Rattle.refusal.specs.declared.Outcome.{Outcome}
 use Rattle.refusal.specs.declared.Outcome.the-variants.{Done, Refused}
-use Rattle.refusal.proofs.First.{first-now, first-skip, first-done, either-first, either-second, neither, passed, front-failed, front-passed}
+use Rattle.refusal.proofs.First.{passed-is, first-now, first-skip, first-done, either-first, either-second, neither, passed, front-failed, front-passed}
 use Rattle.strip.specs.Strip.{ownChecks, ownFormOf}
 use Rattle.master.specs.declared.State.{State}
 use Rattle.master.specs.State.{stateIn, gone, neverSent, sentTooMuch, impossible, noState, waiting, usedUp, noRoom, noneHeld, isStandby}
 use Rattle.pool.specs.Rooms.{roomsSize}
 use Rattle.pool.specs.Calls.{notLent, notLentOut}
+use Rattle.pool.specs.Inner.{senderOf}
 
 -- ---- what a lent state and lent rooms are
 pub record Lent (st : List ℕ) (rooms : ℕ) : Type 0 where
@@ -27,11 +27,6 @@ pub record Lent (st : List ℕ) (rooms : ℕ) : Type 0 where
   pub sized : rooms ≡ roomsSize
   -- a master that sends has a sum of 32 bits
   pub counted : (stateIn st .role ≡ 4 → ⊥) → stateIn st .added + stateIn st .taken ≤ 4294967295
-  -- and the one that a taking is outstanding of has taken one
-  pub one-taken : stateIn st .role ≡ 2 → 0 < stateIn st .taken
-
-is-wanted : (wanted n : ℕ) → isNot wanted n ≡ false → n ≡ wanted
-is-wanted wanted n e = eqb-true n wanted (not-false (eqb n wanted) e)
 
 pub lent-is : (st : List ℕ) (rooms : ℕ) → notLent st rooms ≡ false → Lent st rooms
 unfolding notLent noState impossible sentTooMuch neverSent
@@ -43,16 +38,11 @@ lent-is st rooms e =
     let q = neither (ltb (m .added) (m .taken)) _ (p .1) in
     let r = neither (above (gone m + 64) (m .added)) _ (q .1) in
     let s = neither (neverSent m) (sentTooMuch m) (r .1) in
-    let t = neither (both (eqb (m .role) 1) (eqb (m .added) (m .taken))) _ (s .0) in
     record {
-      nine = is-wanted 9 (length st) (o .0);
-      sized = is-wanted roomsSize rooms (n .1);
+      nine = passed-is 9 (length st) Passed (sym (o .0)) refl;
+      sized = passed-is roomsSize rooms Passed (sym (n .1)) refl;
       counted = λ h. ltb-false 4294967295 (m .added + m .taken) (let u : isNot 4 (m .role) ≡ true = rw (ne-eqb (m .role) 4 h) refl in sym (rw u refl) ∙ s .1);
-      one-taken = λ h. positive (m .taken) (let u : eqb (m .role) 2 ≡ true = eq-eqb (m .role) 2 h in sym (rw u refl) ∙ t .1);
     }
-  where
-    positive : (n : ℕ) → eqb n 0 ≡ false → 0 < n
-    positive n e = omega (arith, eqb-false n 0 e)
 
 -- the same from a check that passed
 pub lent : (st : List ℕ) (rooms : ℕ) (k : Check) → failed k ≡ notLent st rooms → k ≡ Passed → Lent st rooms
@@ -68,7 +58,7 @@ unfolding notLentOut
 lent-out-is st rooms number strip e =
     let n = neither (notLent st rooms) _ e in
     let o = neither (isNot 4 number) (isNot 676 strip) (n .1) in
-    record { master = lent-is st rooms (n .0); four = is-wanted 4 number (o .0); room = is-wanted 676 strip (o .1) }
+    record { master = lent-is st rooms (n .0); four = passed-is 4 number Passed (sym (o .0)) refl; room = passed-is 676 strip Passed (sym (o .1)) refl }
 
 pub lent-out : (st : List ℕ) (rooms number strip : ℕ) (k : Check) → failed k ≡ notLentOut st rooms number strip → k ≡ Passed → LentOut st rooms number strip
 lent-out st rooms number strip k e p = lent-out-is st rooms number strip (sym e ∙ ap failed p)
@@ -85,47 +75,43 @@ module _ (m : State) (s : List ℕ) (x : Outcome) (e : outcome x ≡ ownFormOf s
     pub strip-fits : k ≡ Passed → _≡_ {A = Answer (Unit {0})} (done tt) (first (ownChecks s ++ ((14, noRoom m) ∷ [])) refused (done tt))
     strip-fits g = front-passed ((14, noRoom m) ∷ []) refused (done tt) (outcome x) tt (ownChecks s) _ tt e (ap outcome f) (first-skip 14 (noRoom m) [] refused (done tt) (done tt) (sym (ap failed g) ∙ h) (first-done refused (done tt) (done tt) refl))
 
--- ---- adding and taking begin alike: what is lent, a standby, 23, 24; then their own
-module _ (st : List ℕ) (a : Bool) (rest : List (ℕ × Bool)) (k : Check) (e : failed k ≡ a) where
-  abbrev sender : List (ℕ × Bool)
-  sender = (6, either a (isStandby (stateIn st))) ∷ (23, waiting (stateIn st)) ∷ (24, usedUp (stateIn st)) ∷ rest
+-- ---- adding and taking begin alike: what is lent, a standby, 23, 24
+module _ (m : State) (k : Check) where
+  pub unlent : k ≡ Failed → _≡_ {A = Answer (Unit {0})} (refused (refusal 6)) (senderOf (failed k) m)
+  unlent f = first-now 6 (either (failed k) (isStandby m)) _ refused (done tt) (either-first (failed k) (isStandby m) k refl f)
 
-  pub unlent : k ≡ Failed → _≡_ {A = Answer (Unit {0})} (refused (refusal 6)) (first sender refused (done tt))
-  unlent f = first-now 6 (either a (isStandby (stateIn st))) _ refused (done tt) (either-first a (isStandby (stateIn st)) k e f)
+  module _ (p : k ≡ Passed) (j : Check) (g : failed j ≡ isStandby m) where
+    pub from-standby : j ≡ Failed → _≡_ {A = Answer (Unit {0})} (refused (refusal 6)) (senderOf (failed k) m)
+    from-standby f = first-now 6 (either (failed k) (isStandby m)) _ refused (done tt) (either-second (failed k) (isStandby m) k true refl p (sym (ap failed f) ∙ g))
 
-  module _ (p : k ≡ Passed) (m : State) (h : m ≡ stateIn st) (j : Check) (i : failed j ≡ isStandby m) where
-    g : failed j ≡ isStandby (stateIn st)
-    g = i ∙ ap isStandby h
+    pub may-send : j ≡ Passed → (x : Answer (Unit {0})) → x ≡ first ((23, waiting m) ∷ (24, usedUp m) ∷ []) refused (done tt) → x ≡ senderOf (failed k) m
+    may-send q x w = first-skip 6 (either (failed k) (isStandby m)) _ refused (done tt) x (either-second (failed k) (isStandby m) k false refl p (sym (ap failed q) ∙ g)) w
 
-    pub from-standby : j ≡ Failed → _≡_ {A = Answer (Unit {0})} (refused (refusal 6)) (first sender refused (done tt))
-    from-standby f = first-now 6 (either a (isStandby (stateIn st))) _ refused (done tt) (either-second a (isStandby (stateIn st)) k true e p (sym (ap failed f) ∙ g))
+-- then their own, asked of the state as it was read
+module _ (st : List ℕ) (t : Bool) (a : Bool) (e : t ≡ a) (m : State) (h : m ≡ stateIn st) (x : Outcome) (w : outcome x ≡ senderOf t m) where
+  front : List (ℕ × Bool)
+  front = (6, either a (isStandby (stateIn st))) ∷ (23, waiting (stateIn st)) ∷ (24, usedUp (stateIn st)) ∷ []
 
-    module _ (q : j ≡ Passed) (x : Outcome) (w : outcome x ≡ first ((23, waiting m) ∷ (24, usedUp m) ∷ []) refused (done tt)) where
-      front : List (ℕ × Bool)
-      front = (23, waiting (stateIn st)) ∷ (24, usedUp (stateIn st)) ∷ []
+  answered : outcome x ≡ first front refused (done tt)
+  unfolding front
+  answered = w ∙ rw (e, h) refl
 
-      answered : outcome x ≡ first front refused (done tt)
-      unfolding front
-      answered = w ∙ ap (λ (m : State). first ((23, waiting m) ∷ (24, usedUp m) ∷ []) refused (done tt)) h
+  pub held-back : (rest : List (ℕ × Bool)) (r : Refusal) → x ≡ Refused r → outcome x ≡ first ((6, either a (isStandby (stateIn st))) ∷ (23, waiting (stateIn st)) ∷ (24, usedUp (stateIn st)) ∷ rest) refused (done tt)
+  unfolding front
+  held-back rest r f = ap outcome f ∙ front-failed rest refused (done tt) (outcome x) tt front r answered (ap outcome f)
 
-      clear : false ≡ either a (isStandby (stateIn st))
-      clear = either-second a (isStandby (stateIn st)) k false e p (sym (ap failed q) ∙ g)
+  module _ (f : x ≡ Done) where
+    go-on : (rest : List (ℕ × Bool)) (y : Answer (Unit {0})) → y ≡ first rest refused (done tt) → y ≡ first ((6, either a (isStandby (stateIn st))) ∷ (23, waiting (stateIn st)) ∷ (24, usedUp (stateIn st)) ∷ rest) refused (done tt)
+    unfolding front
+    go-on rest y z = front-passed rest refused (done tt) (outcome x) tt front y tt answered (ap outcome f) z
 
-      pub held-back : (r : Refusal) → x ≡ Refused r → outcome x ≡ first sender refused (done tt)
-      unfolding front
-      held-back r f = first-skip 6 (either a (isStandby (stateIn st))) _ refused (done tt) (outcome x) clear (ap outcome f ∙ front-failed rest refused (done tt) (outcome x) tt front r answered (ap outcome f))
+    pub may-add : (s : List ℕ) (y : Answer (Unit {0})) → y ≡ first (ownChecks s ++ ((14, noRoom m) ∷ [])) refused (done tt)
+        → y ≡ first ((6, either a (isStandby (stateIn st))) ∷ (23, waiting (stateIn st)) ∷ (24, usedUp (stateIn st)) ∷ ownChecks s ++ ((14, noRoom (stateIn st)) ∷ [])) refused (done tt)
+    may-add s y z = go-on (ownChecks s ++ ((14, noRoom (stateIn st)) ∷ [])) y (z ∙ rw h refl)
 
-      pub may-send : x ≡ Done → (y : Answer (Unit {0})) → y ≡ first rest refused (done tt) → y ≡ first sender refused (done tt)
-      unfolding front
-      may-send f y z = first-skip 6 (either a (isStandby (stateIn st))) _ refused (done tt) y clear (front-passed rest refused (done tt) (outcome x) tt front y tt answered (ap outcome f) z)
+    module _ (l : Check) (z : failed l ≡ noneHeld m) where
+      pub none-to-take : l ≡ Failed → _≡_ {A = Answer (Unit {0})} (refused (refusal 15)) (first ((6, either a (isStandby (stateIn st))) ∷ (23, waiting (stateIn st)) ∷ (24, usedUp (stateIn st)) ∷ (15, noneHeld (stateIn st)) ∷ []) refused (done tt))
+      none-to-take g = go-on ((15, noneHeld (stateIn st)) ∷ []) (refused (refusal 15)) (first-now 15 (noneHeld (stateIn st)) [] refused (done tt) (sym (ap failed g) ∙ z ∙ ap noneHeld h))
 
-      -- the strip and 14, or 15, asked of the state as it was read
-      pub may-add : (s : List ℕ) → rest ≡ ownChecks s ++ ((14, noRoom (stateIn st)) ∷ []) → x ≡ Done → (y : Answer (Unit {0})) → y ≡ first (ownChecks s ++ ((14, noRoom m) ∷ [])) refused (done tt) → y ≡ first sender refused (done tt)
-      may-add s r f y z = may-send f y (z ∙ rw (h, ← r) refl)
-
-      module _ (r : rest ≡ (15, noneHeld (stateIn st)) ∷ []) (f : x ≡ Done) (l : Check) (z : failed l ≡ noneHeld m) where
-        pub none-to-take : l ≡ Failed → _≡_ {A = Answer (Unit {0})} (refused (refusal 15)) (first sender refused (done tt))
-        none-to-take g = may-send f (refused (refusal 15)) (rw r (first-now 15 (noneHeld (stateIn st)) [] refused (done tt) (sym (ap failed g) ∙ z ∙ ap noneHeld h)))
-
-        pub may-take : l ≡ Passed → _≡_ {A = Answer (Unit {0})} (done tt) (first sender refused (done tt))
-        may-take g = may-send f (done tt) (rw r (first-skip 15 (noneHeld (stateIn st)) [] refused (done tt) (done tt) (sym (ap failed g) ∙ z ∙ ap noneHeld h) (first-done refused (done tt) (done tt) refl)))
+      pub may-take : l ≡ Passed → _≡_ {A = Answer (Unit {0})} (done tt) (first ((6, either a (isStandby (stateIn st))) ∷ (23, waiting (stateIn st)) ∷ (24, usedUp (stateIn st)) ∷ (15, noneHeld (stateIn st)) ∷ []) refused (done tt))
+      may-take g = go-on ((15, noneHeld (stateIn st)) ∷ []) (done tt) (first-skip 15 (noneHeld (stateIn st)) [] refused (done tt) (done tt) (sym (ap failed g) ∙ z ∙ ap noneHeld h) (first-done refused (done tt) (done tt) refl))

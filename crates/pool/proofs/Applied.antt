@@ -16,7 +16,7 @@ use Rattle.refusal.specs.declared.Check.{Check}
 use Rattle.refusal.specs.declared.Check.the-variants.{Passed, Failed}
 use Rattle.refusal.specs.declared.Outcome.{Outcome}
 use Rattle.refusal.specs.declared.Outcome.the-variants.{Done, Refused}
-use Rattle.refusal.proofs.First.{all-passed, one-failed}
+use Rattle.refusal.proofs.First.{all-passed, one-failed, passes-done}
 use Rattle.strip.specs.Strip.{ownChecks, ownFormOf}
 use Rattle.strip.proofs.Good.{own-short}
 use Rattle.message.specs.Message.{readOf}
@@ -112,12 +112,6 @@ module _ (m : State) (x : Message) (s : List ℕ) where
         twice false = refl
 
 -- ---- what is applied
-passes-done : (checks : List (ℕ × Bool)) → passes checks ≡ true → _≡_ {A = Answer (Unit {0})} (first checks refused (done tt)) (done tt)
-unfolding passes first
-passes-done [] e = refl
-passes-done ((n, true) ∷ checks) e = let z : _≡_ {A = ℕ} 0 1 = cc in absurd (omega arith)
-passes-done ((n, false) ∷ checks) e = passes-done checks e
-
 both-first : (a b : Bool) → both a b ≡ true → a ≡ true
 both-first true b e = refl
 both-first false b e = e

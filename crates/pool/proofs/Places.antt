@@ -8,7 +8,7 @@ use lib.Seq.{take-length, length-take-le, take-all, drop-at, drop-drop}
 use borrow.Rule.Slice.PartMut.{putMid}
 use Rattle.strip.specs.Strip.{lengthField}
 use Rattle.message.specs.Message.{numberBytes, frontBytes, addition, taking}
-use Rattle.pool.specs.Rooms.{roomAt, withRoom, padded, filled, cleared, stripIn, handing, handingNone}
+use Rattle.pool.specs.Rooms.{roomAt, withRoom, padded, filled, cleared, stripIn, handing}
 
 pub drop-zeros : (n m : ℕ) → drop {A = ℕ} n (replicate m 0) ≡ replicate (m - n) 0
 drop-zeros zero m = let e : m - 0 ≡ m = omega arith in rw e refl
@@ -61,10 +61,6 @@ module _ (rooms : List ℕ) (n start : ℕ) (e : start ≡ 676 * (n % 64)) where
       let z : drop (length room) strip ≡ [] = drop-of-length-le strip {i = length room} (omega arith) in
       let s : strip′ ≡ roomAt rooms n = p ∙ rw (z, take-length room, append-nil room) (room-read k h) in
       rw (q, r, s) refl
-
-pub handed-none : (rooms strip number : List ℕ) → number ≡ numberBytes 0 → (rooms, (number, strip)) ≡ handingNone rooms strip
-unfolding handingNone
-handed-none rooms strip number e = rw e refl
 
 -- ---- the strip in a room
 module _ (room : List ℕ) (l : length room ≡ 676) where

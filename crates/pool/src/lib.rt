@@ -10,6 +10,7 @@ ghost use Rattle.refusal.specs.Answer.{done, refused, first, outcome};
 ghost use Rattle.strip.specs.Strip.{ownChecks};
 ghost use Rattle.master.specs.State.{noRoom};
 ghost use Rattle.pool.specs.Rooms.{roomsSize};
+ghost use Rattle.pool.specs.Inner.{senderOf};
 ghost use Rattle.pool.specs.Calls.{notLent, notLentOut, addChecks, addOf, takeChecks, takeOf, outstandingOf, settle, acknowledgeOf, applyOf, goAloneOf};
 use master::State;
 use refusal::Check;
@@ -52,19 +53,26 @@ fn check_strip(master: State, strip: &[u8]) -> Outcome
     Outcome::Done
 }
 
-fn check_add(state: &[u8], rooms: usize, strip: &[u8]) -> Outcome
-    ensures { λ r. ⌜ outcome r ≡ first (addChecks (now (state .entry)) rooms (now (strip .entry))) refused (done tt) ⌝ }
+// What adding and taking refuse alike, from the check of what is lent: 6, also to a standby, then 23, 24.
+fn check_sender(lent: Check, master: State) -> Outcome
+    ensures { λ r. ⌜ outcome r ≡ senderOf (failed lent) master ⌝ }
 {
-    let Check::Passed = check_lent(state, rooms) else {
+    let Check::Passed = lent else {
         return refusal::buffer(6);
     };
-    let master = master::read(state);
     let Check::Passed = master::check_standby(master) else {
         return refusal::buffer(6);
     };
-    let sending = master::check_sending(master);
-    let Outcome::Done = sending else {
-        return sending;
+    master::check_sending(master)
+}
+
+fn check_add(state: &[u8], rooms: usize, strip: &[u8]) -> Outcome
+    ensures { λ r. ⌜ outcome r ≡ first (addChecks (now (state .entry)) rooms (now (strip .entry))) refused (done tt) ⌝ }
+{
+    let master = master::read(state);
+    let sender = check_sender(check_lent(state, rooms), master);
+    let Outcome::Done = sender else {
+        return sender;
     };
     check_strip(master, strip)
 }
@@ -72,16 +80,10 @@ fn check_add(state: &[u8], rooms: usize, strip: &[u8]) -> Outcome
 fn check_take(state: &[u8], rooms: usize, number: usize, strip: usize) -> Outcome
     ensures { λ r. ⌜ outcome r ≡ first (takeChecks (now (state .entry)) rooms number strip) refused (done tt) ⌝ }
 {
-    let Check::Passed = check_lent_out(state, rooms, number, strip) else {
-        return refusal::buffer(6);
-    };
     let master = master::read(state);
-    let Check::Passed = master::check_standby(master) else {
-        return refusal::buffer(6);
-    };
-    let sending = master::check_sending(master);
-    let Outcome::Done = sending else {
-        return sending;
+    let sender = check_sender(check_lent_out(state, rooms, number, strip), master);
+    let Outcome::Done = sender else {
+        return sender;
     };
     let Check::Passed = master::check_held(master) else {
         return refusal::pool(15);

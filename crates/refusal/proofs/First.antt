@@ -10,7 +10,7 @@ use Rattle.refusal.specs.declared.Refusal.{Refusal}
 use Rattle.refusal.specs.declared.Check.{Check}
 use Rattle.refusal.specs.declared.Check.the-variants.{Passed, Failed}
 use Rattle.refusal.specs.Refusal.{refusal, failed}
-use Rattle.refusal.specs.Answer.{Answer, done, refused, answerNumber, numbered, first, either, both, isNot, noneOf}
+use Rattle.refusal.specs.Answer.{Answer, done, refused, answerNumber, numbered, first, passes, either, both, isNot, noneOf}
 
 both-on : (b : Bool) → b ≡ both b true
 both-on true = refl
@@ -129,6 +129,13 @@ pub passed : (n : ℕ) (b : Bool) (checks : List (ℕ × Bool)) (x : Unit {0}) �
 unfolding first
 passed n true checks x e = let y : _≡_ {A = ℕ} 0 1 = cc in absurd (omega arith)
 passed n false checks x e = (refl, e)
+
+-- so it is where the list passes
+pub passes-done : (checks : List (ℕ × Bool)) → passes checks ≡ true → _≡_ {A = Answer (Unit {0})} (first checks refused (done tt)) (done tt)
+unfolding passes first
+passes-done [] e = refl
+passes-done ((n, true) ∷ checks) e = let z : _≡_ {A = ℕ} 0 1 = cc in absurd (omega arith)
+passes-done ((n, false) ∷ checks) e = passes-done checks e
 
 -- and of two lists of checks, none of either
 pub parts-passed : (front rest : List (ℕ × Bool)) (x : Unit {0}) → first (front ++ rest) refused (done x) ≡ done x

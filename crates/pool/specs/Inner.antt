@@ -1,0 +1,10 @@
+-- What a private function of the checks answers. No promise rests on this.
+use mathlib.Core.List.{[], _∷_}
+use mathlib.Core.Bool.{Bool}
+use Rattle.refusal.specs.Answer.{Answer, done, refused, first, either}
+use Rattle.master.specs.declared.State.{State}
+use Rattle.master.specs.State.{waiting, usedUp, isStandby}
+
+-- what adding and taking refuse alike
+abbrev pub senderOf : Bool → State → Answer (Unit {0})
+senderOf notLent m = first ((6, either notLent (isStandby m)) ∷ (23, waiting m) ∷ (24, usedUp m) ∷ []) refused (done tt)
