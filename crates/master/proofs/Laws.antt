@@ -15,7 +15,7 @@ use Rattle.refusal.specs.declared.Check.the-variants.{Passed, Failed}
 use Rattle.refusal.proofs.First.{either-first, either-second}
 use Rattle.message.specs.Message.{numberBytes}
 use Rattle.master.specs.declared.State.{State}
-use Rattle.master.specs.State.{stateIn, stateBytes, gone, neverSent, sentTooMuch, impossible, noState, waiting, usedUp, noRoom, noneHeld, isStandby, sending, counts}
+use Rattle.master.specs.State.{stateIn, stateBytes, sent, gone, neverSent, sentTooMuch, impossible, noState, waiting, usedUp, noRoom, noneHeld, isStandby, sending, counts}
 
 -- a part overwritten by as many bytes
 pub overwritten : (b part new : List ℕ) → length b ≡ length part → new ≡ take (length b) b ++ drop (length b) part → new ≡ b
@@ -161,9 +161,9 @@ module _ (m : State) (n : ℕ) (k : Check) (e : failed k ≡ waiting m) where
   unfolding counts
   counts-not p = let t : waiting m ≡ false = sym e ∙ ap failed p in rw t refl
 
-  pub counts-sum : (x y z : ℕ) → k ≡ Failed → x ≡ n → y ≡ m .added → z ≡ m .taken → eqb x (y + z) ≡ counts m n
+  pub counts-sum : (x y : ℕ) → k ≡ Failed → x ≡ n → y ≡ sent m → eqb x y ≡ counts m n
   unfolding counts
-  counts-sum x y z p f g h = let t : waiting m ≡ true = sym e ∙ ap failed p in rw (t, f, g, h) refl
+  counts-sum x y p f g = let t : waiting m ≡ true = sym e ∙ ap failed p in rw (t, f, g) refl
 
 -- an array by its elements, and copied over a part that begins with as many bytes
 pub copied : (b all part new : List ℕ) (n : ℕ) → b ≡ all → length all ≡ n → n ≡ length part → new ≡ take (length b) b ++ drop (length b) part → new ≡ all

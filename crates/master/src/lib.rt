@@ -2,11 +2,9 @@
 ghost use mathlib.Core.Path.{_≡_};
 ghost use Prim.Native.Nat.{_<_};
 ghost use mathlib.Core.List.{[], _∷_};
-ghost use lib.ListN.{getD};
 ghost use Rattle.refusal.specs.Refusal.{failed};
 ghost use Rattle.refusal.specs.Answer.{done, refused, first, outcome};
-ghost use Rattle.message.specs.Message.{numberAt};
-ghost use Rattle.master.specs.State.{stateIn, stateBytes, gone, neverSent, sentTooMuch, impossible, noState, waiting, usedUp, noRoom, noneHeld, isStandby, sending, counts};
+ghost use Rattle.master.specs.State.{stateIn, stateBytes, sent, gone, neverSent, sentTooMuch, impossible, noState, waiting, usedUp, noRoom, noneHeld, isStandby, sending, counts};
 use refusal::Check;
 use refusal::Outcome;
 
@@ -24,35 +22,14 @@ pub fn wide(x: u32) -> u64
     x as u64
 }
 
-fn byte_at(part: &[u8], index: usize) -> u8
-    ensures { λ b. ⌜ b ≡ getD (now (part .entry)) index 0 ⌝ }
-{
-    if index < part.len() {
-        return part[index];
-    }
-    0
-}
-
-fn number_at(part: &[u8], at: usize) -> u32
-    requires { ⌜ at < 6 ⌝ }
-    ensures { λ n. ⌜ n ≡ numberAt (now (part .entry)) at ⌝ }
-{
-    message::number(
-        byte_at(part, at),
-        byte_at(part, at + 1),
-        byte_at(part, at + 2),
-        byte_at(part, at + 3),
-    )
-}
-
 // Any bytes are read; those that are not there count as zero.
 pub fn read(state: &[u8]) -> State
     ensures { λ m. ⌜ m ≡ stateIn (now (state .entry)) ⌝ }
 {
     State {
-        role: byte_at(state, 0),
-        added: number_at(state, 1),
-        taken: number_at(state, 5),
+        role: message::byte_at(state, 0),
+        added: message::number_at(state, 1),
+        taken: message::number_at(state, 5),
     }
 }
 
@@ -72,6 +49,13 @@ pub fn state_bytes(master: State) -> [u8; 9]
         taken[2],
         taken[3],
     ]
+}
+
+// The last sequence number.
+pub fn sent(master: State) -> u64
+    ensures { λ r. ⌜ (r ≡ sent master) × (r < 8589934592) ⌝ }
+{
+    wide(master.added) + wide(master.taken)
 }
 
 // How many strips have left their rooms.
@@ -111,7 +95,7 @@ fn check_sum(master: State) -> Check
     if master.role == 4 {
         return Check::Passed;
     }
-    if 4294967295 < wide(master.added) + wide(master.taken) {
+    if 4294967295 < sent(master) {
         return Check::Failed;
     }
     Check::Passed
@@ -174,7 +158,7 @@ fn check_numbers(master: State) -> Check
     if master.role == 4 {
         return Check::Passed;
     }
-    if 4294967295 <= wide(master.added) + wide(master.taken) {
+    if 4294967295 <= sent(master) {
         return Check::Failed;
     }
     Check::Passed
@@ -232,5 +216,5 @@ pub fn counted(master: State, sequence: u32) -> bool
     let Check::Failed = check_waiting(master) else {
         return false;
     };
-    wide(sequence) == wide(master.added) + wide(master.taken)
+    wide(sequence) == sent(master)
 }

@@ -1,8 +1,8 @@
 // Messages between the masters as bytes, and the numbers in them: four bytes, big-endian.
 ghost use mathlib.Core.Path.{_≡_};
 ghost use mathlib.Core.List.{[], _∷_, _++_};
-ghost use Prim.Native.Nat.{_+_, _*_, _<_, _≤_};
-ghost use lib.ListN.{length, getD};
+ghost use Prim.Native.Nat.{_<_};
+ghost use lib.ListN.{getD};
 ghost use Rattle.refusal.specs.Refusal.{failed};
 ghost use Rattle.message.specs.Message.{numberBytes, numberAt, frontBytes, acknowledgement, misframed, readOf};
 use refusal::Check;
@@ -21,10 +21,32 @@ fn wide(x: u8) -> u32
     x as u32
 }
 
-pub fn number(a: u8, b: u8, c: u8, d: u8) -> u32
+fn number(a: u8, b: u8, c: u8, d: u8) -> u32
     ensures { λ n. ⌜ n ≡ numberAt (a ∷ b ∷ c ∷ d ∷ []) 0 ⌝ }
 {
     ((wide(a) * 256 + wide(b)) * 256 + wide(c)) * 256 + wide(d)
+}
+
+// A byte that is not there counts as zero.
+pub fn byte_at(part: &[u8], index: usize) -> u8
+    ensures { λ b. ⌜ b ≡ getD (now (part .entry)) index 0 ⌝ }
+{
+    if index < part.len() {
+        return part[index];
+    }
+    0
+}
+
+pub fn number_at(part: &[u8], at: u8) -> u32
+    ensures { λ n. ⌜ n ≡ numberAt (now (part .entry)) at ⌝ }
+{
+    let first = at as usize;
+    number(
+        byte_at(part, first),
+        byte_at(part, first + 1),
+        byte_at(part, first + 2),
+        byte_at(part, first + 3),
+    )
 }
 
 pub fn number_bytes(n: u32) -> [u8; 4]
@@ -68,13 +90,6 @@ fn check_framing(part: &[u8]) -> Check
         return Check::Failed;
     };
     refusal::check_length(part[2] as usize, 1)
-}
-
-fn number_at(part: &[u8], at: usize) -> u32
-    requires { ⌜ (at + 4 ≤ length (now part)) × (at < 9) ⌝ }
-    ensures { λ n. ⌜ n ≡ numberAt (now (part .entry)) at ⌝ }
-{
-    number(part[at], part[at + 1], part[at + 2], part[at + 3])
 }
 
 // Any bytes are read; what is no message is Unreadable.

@@ -1,28 +1,21 @@
--- `master::check_numbers` meets its contract: by the role and the sum, made of widened numbers. Assumes nothing.
+-- `master::check_numbers` meets its contract: by the role and the sum. Assumes nothing.
+use Rattle.master.proofs.Laws.{used-alone, used-up, used-less}
 use native.Mathlib.Omega.{arith}
 use borrow.Author.Needs.{needs}
-use Rattle.master.proofs.Laws.{used-alone, used-up, used-less}
 use Rattle.master.proofs.check_numbers.Statement.{statement}
 use Rattle.master.proofs.check_numbers.Tie as tie
 
 returns : tie.Need-returns
 returns c = used-alone _ (omega arith)
 
-wide-requires : tie.Need-wide-requires
-wide-requires c κs = search needs
-
-wide-requires-2 : tie.Need-wide-requires-2
-wide-requires-2 c κs = search needs
-
-add-if2 : tie.Need-add-if2
-add-if2 c = search needs
+sent-requires : tie.Need-sent-requires
+sent-requires c κs = search needs
 
 returns-2 : tie.Need-returns-2
-returns-2 c = used-up _ (λ x. omega arith) (omega (arith, c .before .before .wide .ensures .0, c .before .wide2 .ensures .0))
+returns-2 c = used-up _ (λ x. omega arith) (omega (arith, c .before .sent .ensures .0))
 
 returns-3 : tie.Need-returns-3
-returns-3 c = used-less _ (λ x. omega arith) (omega (arith, c .before .before .wide .ensures .0, c .before .wide2 .ensures .0))
+returns-3 c = used-less _ (λ x. omega arith) (omega (arith, c .before .sent .ensures .0))
 
 pub check-numbers-spec : {M : Type 1} → statement M
-check-numbers-spec =
-    tie.close (tie.spec returns wide-requires wide-requires-2 add-if2 returns-2 returns-3)
+check-numbers-spec = tie.close (tie.spec returns sent-requires returns-2 returns-3)

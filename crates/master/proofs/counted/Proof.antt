@@ -1,6 +1,6 @@
 -- `master::counted` meets its contract: from the check of 23 and the sum. Assumes nothing.
-use borrow.Author.Needs.{needs}
 use Rattle.master.proofs.Laws.{counts-not, counts-sum}
+use borrow.Author.Needs.{needs}
 use Rattle.master.proofs.counted.Statement.{statement}
 use Rattle.master.proofs.counted.Tie as tie
 
@@ -19,17 +19,11 @@ returns c = counts-not _ _ _ (c .before .before .check-waiting .ensures) (c .enu
 wide-requires : tie.Need-wide-requires
 wide-requires c κs = search needs
 
-wide-requires-2 : tie.Need-wide-requires-2
-wide-requires-2 c κs = search needs
-
-wide-requires-3 : tie.Need-wide-requires-3
-wide-requires-3 c κs = search needs
-
-add-result : tie.Need-add-result
-add-result c = search needs
+sent-requires : tie.Need-sent-requires
+sent-requires c κs = search needs
 
 returns-2 : tie.Need-returns-2
-returns-2 c = counts-sum _ _ _ (c .before .before .before .before .before .check-waiting .ensures) _ _ _ (c .before .before .before .enum-told .given .1) (c .before .before .wide .ensures .0) (c .before .wide2 .ensures .0) (c .wide3 .ensures .0)
+returns-2 c = counts-sum _ _ _ (c .before .before .before .before .check-waiting .ensures) _ _ (c .before .before .enum-told .given .1) (c .before .wide .ensures .0) (c .sent .ensures .0)
 
 pub counted-spec : {M : Type 1} → statement M
 counted-spec =
@@ -40,7 +34,5 @@ counted-spec =
     enum-told-2
     returns
     wide-requires
-    wide-requires-2
-    wide-requires-3
-    add-result
+    sent-requires
     returns-2)
