@@ -1,7 +1,7 @@
 -- The safety theorem, from what every event keeps. Assumes nothing.
 use Prim.Native.Nat.{ℕ, suc, _≤_}
 use native.Mathlib.Omega.{arith}
-use borrow.Author.Tests.{le-ltb, eq-eqb}
+use borrow.Author.Tests.{le-ltb, eq-eqb, ne-eqb}
 use mathlib.Core.Path.{_≡_, refl, sym, _∙_}
 use mathlib.Core.Logic.{⊎-elim}
 use mathlib.Core.List.{List, [], _∷_}
@@ -11,7 +11,7 @@ use Rattle.refusal.specs.Answer.{first}
 use Rattle.mirror.specs.Mirror.{Checks, done, handed, acknowledged, refused, unless, taking, Active, waiting, add, take, acknowledge, Message, sequence, outstanding, Standby, fits, notApplied, receive, paper, World}
 use Rattle.mirror.specs.Claims.{All, Safe}
 use Rattle.mirror.specs.Claims as claims
-use Rattle.mirror.proofs.Pools.{all-map, differs, above, whole-counted, whole-above}
+use Rattle.mirror.proofs.Pools.{all-map, above, whole-counted, whole-above}
 use Rattle.mirror.proofs.Kept.{Sync, level, ahead, Kept, numbered, quiet, kept}
 
 -- while a message is outstanding nothing is added or taken
@@ -25,7 +25,7 @@ waits-take a e = simp e
 
 other : (k : ℕ) (a : Active) → (k ≡ a .sent → ⊥) → acknowledge k a ≡ (done, a)
 unfolding acknowledge
-other k a d = simp (differs k (a .sent) d)
+other k a d = simp (ne-eqb k (a .sent) d)
 
 hands : (a : Active) (x : ℕ × List ℕ) → a .out ≡ taking x → acknowledge (a .sent) a .0 ≡ handed x
 unfolding acknowledge
@@ -35,7 +35,7 @@ hands a x e = simp (eq-eqb (a .sent) (a .sent) refl, e)
 module _ (own : List ℕ → Checks) (m : Message) (b : Standby) (here : b .alone ≡ false) where
   old : sequence m ≤ b .applied → receive own m b .0 ≡ acknowledged (sequence m)
   unfolding receive notApplied unless first
-  old h = simp (here, le-ltb (suc (b .applied)) (sequence m) (omega arith), differs (sequence m) (suc (b .applied)) (λ e. omega arith))
+  old h = simp (here, le-ltb (suc (b .applied)) (sequence m) (omega arith), ne-eqb (sequence m) (suc (b .applied)) (λ e. omega arith))
 
   next : sequence m ≡ suc (b .applied) → fits own (b .pool) m ≡ true → receive own m b .0 ≡ acknowledged (sequence m)
   unfolding receive notApplied unless first

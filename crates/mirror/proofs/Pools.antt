@@ -2,14 +2,13 @@
 use Prim.{tt}
 use Prim.Native.Nat.{ℕ, zero, suc, _+_, _≤_, _<_}
 use native.Mathlib.Omega.{arith}
-use borrow.Author.Tests.{eqb-true}
-use mathlib.Core.Path.{_≡_, refl, sym, ap}
+use mathlib.Core.Path.{_≡_, refl, ap}
 use mathlib.Core.Logic.{inl, inr, ⊎-elim}
 use mathlib.Core.List.{List, [], _∷_, _++_}
 use mathlib.Core.Bool.{Bool, true, false}
 use lib.ListN.{length}
-use lib.Dec.{eqb}
 use Rattle.refusal.specs.declared.Refusal.{Refusal}
+use Rattle.refusal.proofs.First.{true-false}
 use Rattle.refusal.specs.Answer.{first, choose, passes}
 use Rattle.mirror.specs.Mirror.{Strips, Pool, lowest, rest, put, less, Said, refused, Checks, unless, noneHeld, at}
 use Rattle.mirror.specs.Claims.{All, In, Above, Upward, Counted}
@@ -43,15 +42,6 @@ grows-before [] k x h = h
 grows-before (z ∷ l) k x h = inr (grows-before l k x h)
 
 -- ---- choices and checks: what holds of both ends holds of what is chosen
-pub true-false : true ≡ false → ⊥
-true-false e = let z : _≡_ {A = ℕ} 0 1 = cc in omega arith
-
-pub differs : (k n : ℕ) → (k ≡ n → ⊥) → eqb k n ≡ false
-differs k n d = by-cases (eqb k n) (eqb-true k n) where
-  by-cases : (t : Bool) → (t ≡ true → k ≡ n) → t ≡ false
-  by-cases true f = absurd (d (f refl))
-  by-cases false f = refl
-
 pub choose-both : {A : Type 0} (P : A → Type 0) (t : Bool) (a b : A) → (t ≡ true → P a) → (t ≡ false → P b) → P (choose t a b)
 choose-both P true a b f g = f refl
 choose-both P false a b f g = g refl
@@ -62,17 +52,6 @@ unfolding unless passes first
 unless-both P [] state new f g = f refl
 unless-both P ((n, true) ∷ checks) state new f g = g _
 unless-both P ((n, false) ∷ checks) state new f g = unless-both P checks state new f g
-
-pub passes-first : (n : ℕ) (b : Bool) (checks : Checks) → passes ((n, b) ∷ checks) ≡ true → (b ≡ false) × (passes checks ≡ true)
-unfolding passes first
-passes-first n true checks e = absurd (true-false (sym e))
-passes-first n false checks e = (refl, e)
-
-pub passes-both : (k l : Checks) → passes (k ++ l) ≡ true → (passes k ≡ true) × (passes l ≡ true)
-unfolding passes first
-passes-both [] l e = (refl, e)
-passes-both ((n, true) ∷ k) l e = absurd (true-false (sym e))
-passes-both ((n, false) ∷ k) l e = passes-both k l e
 
 -- ---- numbers
 -- the numbers are t + 1 to a, in this order

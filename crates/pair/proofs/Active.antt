@@ -11,7 +11,7 @@ use borrow.Author.Tests.{eqb-false, leb-false, ne-eqb}
 use Rattle.refusal.specs.Refusal.{refusal}
 use Rattle.refusal.specs.Answer as answer
 use Rattle.refusal.specs.Answer.{first, choose, either, both, passes}
-use Rattle.refusal.proofs.First.{neither}
+use Rattle.refusal.proofs.First.{neither, true-false, passes-first, passes-both}
 use Rattle.strip.specs.Strip.{ownChecks}
 use Rattle.message.specs.Message as message
 use Rattle.message.specs.Message.{addition, readOf}
@@ -19,17 +19,17 @@ use Rattle.message.specs.declared.Message.{Message}
 use Rattle.message.specs.declared.Message.the-variants.{Adds, Takes, Acknowledges, Unreadable}
 use Rattle.mirror.specs.Mirror as mirror
 use Rattle.mirror.specs.Mirror.{Said, Checks}
-use Rattle.mirror.proofs.Pools.{true-false, passes-first, passes-both}
 use Rattle.master.specs.declared.State.{State}
 use Rattle.master.specs.State as pool
 use Rattle.master.specs.State.{most, stateIn, stateBytes, sent, gone, usedUp, sending, counts}
 use Rattle.pool.specs.Rooms.{roomAt, padded, filled, cleared, stripIn, handing, handingNone}
-use Rattle.pool.specs.Calls.{oneMore, oneTaken, withRole, addChecks, takeChecks, addOf, takeOf, acknowledgeOf, isAcknowledgement, settle, messageOf, outstandingOf}
+use Rattle.checks.specs.Checks.{addChecks, takeChecks, isAcknowledgement}
+use Rattle.pool.specs.Calls.{oneMore, oneTaken, withRole, addOf, takeOf, acknowledgeOf, settle, messageOf, outstandingOf}
 use Rattle.pair.specs.Pair.{Cabinet, afterAdd, afterHanding, add, takeOut, acknowledge, sentIn, outstanding, poolIn, outIn, activeIn, messageIn, numberIn, messagesIn}
 use Rattle.pair.specs.Claims.{Messages}
 use Rattle.pair.proofs.Rooms.{Filled, first-cleared}
 use Rattle.pair.proofs.Bytes.{own-good, none-sent, addition-sent, addition-back, addition-strip, taking-sent, taking-back}
-use Rattle.pair.proofs.Master.{none-handed, some-handed, Sound, Kept, Follows, lent-follows, sound-back, kept-new, lent, lent-out, strip-here, same-room, same-none, pool-more, pool-less, pool-lowest, pool-cleared, room-left, some-held, gone-is, more-sound}
+use Rattle.pair.proofs.Master.{none-handed, some-handed, Sound, Kept, Follows, lent-follows, sound-back, kept-new, lent, lent-with, lent-out, strip-here, same-room, same-none, pool-more, pool-less, pool-lowest, pool-cleared, room-left, some-held, gone-is, more-sound}
 
 abbrev pub activeOf : Cabinet → mirror.Active
 activeOf c = activeIn (stateIn (c .state)) (c .rooms)
@@ -213,7 +213,7 @@ module _ (c : Cabinet) (v : Active c) where
   -- ---- what it sends
   sent-is : outstanding c ≡ sentIn (padded 688 (messageOf m (c .rooms)))
   unfolding outstanding outstandingOf first
-  sent-is = rw (lent v (omega arith)) refl
+  sent-is = rw (lent-with v (omega arith) 688) refl
 
   pub outstanding-follows : (messagesIn (outstanding c) ≡ mirror.outstanding a) × Messages (outstanding c)
   unfolding messagesIn messageOf mirror.outstanding activeIn outIn

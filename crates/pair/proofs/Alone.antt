@@ -15,12 +15,13 @@ use Rattle.refusal.specs.Answer.{Answer, first, choose, passes}
 use Rattle.strip.specs.Strip.{ownChecks}
 use Rattle.mirror.specs.Mirror as mirror
 use Rattle.mirror.specs.Mirror.{Strips, Said}
-use Rattle.mirror.proofs.Pools.{passes-first, passes-both}
+use Rattle.refusal.proofs.First.{passes-first, passes-both}
 use Rattle.master.specs.declared.State.{State}
 use Rattle.master.specs.State as pool
 use Rattle.master.specs.State.{stateIn, stateBytes, sent, usedUp, sending}
 use Rattle.pool.specs.Rooms.{roomAt, filled, cleared, stripIn, handing, handingNone}
-use Rattle.pool.specs.Calls.{oneMore, oneTaken, withRole, addChecks, takeChecks, addOf, takeOf, goAloneOf}
+use Rattle.checks.specs.Checks.{addChecks, takeChecks}
+use Rattle.pool.specs.Calls.{oneMore, oneTaken, withRole, addOf, takeOf, goAloneOf}
 use Rattle.pair.specs.Pair.{Cabinet, afterAdd, afterHanding, afterAlone, add, takeOut, goAlone, poolIn, standbyIn}
 use Rattle.pair.proofs.Rooms.{Filled}
 use Rattle.pair.proofs.Bytes.{own-good}

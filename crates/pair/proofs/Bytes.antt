@@ -8,18 +8,15 @@ use mathlib.Core.Bool.{true, false}
 use lib.ListN.{length, getD, drop, replicate, List·getD-append}
 use lib.Seq.{take-at}
 use lib.Dec.{ltb}
-use borrow.Author.Tests.{le-ltb, eq-eqb, ne-eqb, eqb-true, not-false}
-use Rattle.refusal.specs.Answer.{done, first, isNot, noneOf, passes}
-use Rattle.refusal.specs.declared.Outcome.the-variants.{Done}
+use borrow.Author.Tests.{le-ltb, eq-eqb, ne-eqb}
+use Rattle.refusal.specs.Answer.{isNot, passes}
 use Rattle.refusal.specs.declared.Check.the-variants.{Passed}
-use Rattle.refusal.proofs.First.{passed-is, neither, passes-done}
-use Rattle.strip.specs.Strip.{lengthField, keySize, badFraming, spent, unknownVersion, wrongRecordBytes, badRecord, ownChecks, formOf}
+use Rattle.refusal.proofs.First.{passed-is, neither, passes-done, passes-first}
+use Rattle.strip.specs.Strip.{lengthField, badFraming, ownChecks}
 use Rattle.strip.proofs.Good.{unspoilt, own-short}
 use Rattle.message.specs.Message.{numberBytes, numberAt, frontBytes, addition, taking, acknowledgement, misframed, isOf, readOf}
 use Rattle.message.proofs.Laws.{adds}
 use Rattle.message.specs.declared.Message.the-variants.{Adds, Takes, Acknowledges}
-use Rattle.mirror.specs.Mirror.{}
-use Rattle.mirror.proofs.Pools.{passes-first}
 use Rattle.master.specs.declared.State.{State}
 use Rattle.master.specs.State.{most, stateIn, stateBytes}
 use Rattle.pool.specs.Rooms.{padded, stripIn}

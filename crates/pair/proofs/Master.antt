@@ -7,7 +7,7 @@ use mathlib.Core.List.{List, [], _∷_, _++_}
 use mathlib.Core.Bool.{Bool, true, false}
 use lib.ListN.{length, replicate}
 use lib.Dec.{eqb, leb}
-use borrow.Author.Tests.{eqb-true, eqb-false, leb-false, le-ltb, le-leb, lt-leb, ne-eqb, not-true}
+use borrow.Author.Tests.{eqb-true, eqb-false, leb-false, le-ltb, le-leb, lt-leb, ne-eqb, not-true, eq-eqb}
 use Rattle.refusal.specs.declared.Refusal.{Refusal}
 use Rattle.refusal.specs.Answer.{first, both, isNot, above, passes}
 use Rattle.refusal.proofs.First.{neither}
@@ -18,7 +18,8 @@ use Rattle.master.specs.declared.State.{State}
 use Rattle.master.specs.State as pool
 use Rattle.master.specs.State.{most, stateIn, stateBytes, sent, gone, neverSent, sentTooMuch, impossible, noState}
 use Rattle.pool.specs.Rooms.{roomAt, filled, cleared, stripIn}
-use Rattle.pool.specs.Calls.{notLent, notLentOut, oneMore, oneTaken}
+use Rattle.checks.specs.Checks.{notLent, notLentWith, notLentOut}
+use Rattle.pool.specs.Calls.{oneMore, oneTaken}
 use Rattle.pair.specs.Pair.{Cabinet, handedIn, heldIn, poolIn}
 use Rattle.pair.proofs.Rooms.{Filled, next-filled, first-cleared, filled-here, filled-held, cleared-held, held-length, held-more}
 use Rattle.master.proofs.Laws.{state-length, gone-other}
@@ -76,9 +77,13 @@ module _ {low high : ℕ} {c : Cabinet} (v : Kept low high c) (h : high ≤ pool
   unfolding notLent
   lent = simp (a-state, v .sound .filled .size)
 
+  pub lent-with : (size : ℕ) → notLentWith size (c .state) (length (c .rooms)) size ≡ false
+  unfolding notLentWith
+  lent-with size = simp (lent, eq-eqb size size refl)
+
   pub lent-out : notLentOut (c .state) (length (c .rooms)) (length {A = ℕ} (replicate 4 0)) (length {A = ℕ} (replicate 676 0)) ≡ false
   unfolding notLentOut
-  lent-out = simp lent
+  lent-out = simp (lent-with 4)
 
 -- the strip that was put into a room is the one in it
 pub strip-here : {from added : ℕ} {rooms : List ℕ} (v : Filled from added rooms) (s : List ℕ) → Good s → added < from + 64 → stripIn (roomAt (filled rooms added s) added) ≡ s

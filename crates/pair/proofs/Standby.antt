@@ -12,25 +12,26 @@ use Rattle.refusal.specs.declared.Refusal.{Refusal}
 use Rattle.refusal.specs.Refusal.{refusal}
 use Rattle.refusal.specs.Answer as answer
 use Rattle.refusal.specs.Answer.{Answer, first, choose, either, both, isNot, passes}
-use Rattle.refusal.proofs.First.{neither}
+use Rattle.refusal.proofs.First.{neither, true-false, passes-first}
 use Rattle.strip.specs.Strip.{ownChecks}
 use Rattle.message.specs.Message.{acknowledgement, readOf}
 use Rattle.message.specs.declared.Message.{Message}
 use Rattle.message.specs.declared.Message.the-variants.{Adds, Takes, Acknowledges, Unreadable}
 use Rattle.mirror.specs.Mirror as mirror
 use Rattle.mirror.specs.Mirror.{Said, Checks}
-use Rattle.mirror.proofs.Pools.{true-false, passes-first}
 use Rattle.master.specs.declared.State.{State}
 use Rattle.master.specs.State as pool
 use Rattle.master.specs.State.{most, stateIn, stateBytes, sent}
 use Rattle.pool.specs.Rooms.{filled, cleared}
+use Rattle.checks.specs.Checks as checks
 use Rattle.pool.specs.Calls as calls
-use Rattle.pool.specs.Calls.{oneMore, oneTaken, applyOf, isMessage}
+use Rattle.checks.specs.Checks.{isMessage}
+use Rattle.pool.specs.Calls.{oneMore, oneTaken, applyOf}
 use Rattle.pair.specs.Pair.{Cabinet, afterApply, applyAt, apply, sentBack, heldIn, poolIn, standbyIn, messageIn, numbersIn}
 use Rattle.pair.specs.Claims.{Means, Acknowledgements}
 use Rattle.pair.proofs.Rooms.{by-bool, Filled, held-length}
 use Rattle.pair.proofs.Bytes.{own-good, acknowledgement-back}
-use Rattle.pair.proofs.Master.{Sound, Kept, lent-follows, sound-back, kept-new, lent, pool-more, pool-less, pool-cleared, gone-is, more-sound, less-sound}
+use Rattle.pair.proofs.Master.{Sound, Kept, lent-follows, sound-back, kept-new, lent-with, pool-more, pool-less, pool-cleared, gone-is, more-sound, less-sound}
 
 -- what it stands for, and that it is sound; what it did by itself it did alone
 abbrev pub standbyOf : ℕ → Cabinet → mirror.Standby
@@ -73,25 +74,25 @@ record Applied (m : State) (before : List ℕ) (x : mirror.Message) (new : List 
 -- what is read from bytes is this message of the system
 record Reads (m : State) (rooms s : List ℕ) (r : Message) (x : mirror.Message) : Type 0 where
   message : isMessage r ≡ true
-  numbered : calls.sequence r ≡ mirror.sequence x
-  fitting : calls.fits m r s ≡ mirror.fits ownChecks (poolIn m rooms) x
-  applying : Filled (m .taken) (m .added) rooms → m .added + m .taken < most → calls.fits m r s ≡ true → Applied m rooms x (calls.applied m r s rooms)
+  numbered : checks.sequence r ≡ mirror.sequence x
+  fitting : checks.fits m r s ≡ mirror.fits ownChecks (poolIn m rooms) x
+  applying : Filled (m .taken) (m .added) rooms → m .added + m .taken < most → checks.fits m r s ≡ true → Applied m rooms x (calls.applied m r s rooms)
 
 module _ (m : State) (rooms s : List ℕ) where
-  adds-fit : (k n : ℕ) → calls.fits m (Adds k n) s ≡ mirror.fits ownChecks (poolIn m rooms) (mirror.adds k n s)
-  unfolding calls.fits mirror.fits passes poolIn
+  adds-fit : (k n : ℕ) → checks.fits m (Adds k n) s ≡ mirror.fits ownChecks (poolIn m rooms) (mirror.adds k n s)
+  unfolding checks.fits mirror.fits passes poolIn
   adds-fit k n = rw (held-length rooms (m .taken) (m .added - m .taken), below (m .added - m .taken)) refl
 
-  takes-fit : (k n : ℕ) → calls.fits m (Takes k n) s ≡ mirror.fits ownChecks (poolIn m rooms) (mirror.takes k n)
-  unfolding calls.fits mirror.fits poolIn heldIn
+  takes-fit : (k n : ℕ) → checks.fits m (Takes k n) s ≡ mirror.fits ownChecks (poolIn m rooms) (mirror.takes k n)
+  unfolding checks.fits mirror.fits poolIn heldIn
   takes-fit k n = go (m .added - m .taken) refl where
     go : (count : ℕ) → m .added - m .taken ≡ count → both (ltb (m .taken) (m .added)) (eqb n (suc (m .taken))) ≡ mirror.lowestIs n (heldIn rooms (m .taken) count)
     go zero e = rw (le-ltb (m .taken) (m .added) (omega arith)) refl
     go (suc count) e = rw (lt-ltb (m .taken) (m .added) (omega arith)) refl
 
   module _ (f : Filled (m .taken) (m .added) rooms) (small : m .added + m .taken < most) where
-    adds-applied : (k n : ℕ) → calls.fits m (Adds k n) s ≡ true → Applied m rooms (mirror.adds k n s) (calls.applied m (Adds k n) s rooms)
-    unfolding calls.fits calls.applied mirror.applyTo oneMore passes
+    adds-applied : (k n : ℕ) → checks.fits m (Adds k n) s ≡ true → Applied m rooms (mirror.adds k n s) (calls.applied m (Adds k n) s rooms)
+    unfolding checks.fits calls.applied mirror.applyTo oneMore passes
     adds-applied k n e =
         let p = both-true (passes (ownChecks s)) _ e in
         let q = both-true (ltb (m .added - m .taken) 64) _ (p .1) in
@@ -107,8 +108,8 @@ module _ (m : State) (rooms s : List ℕ) where
           next = omega arith;
         }
 
-    takes-applied : (k n : ℕ) → calls.fits m (Takes k n) s ≡ true → Applied m rooms (mirror.takes k n) (calls.applied m (Takes k n) s rooms)
-    unfolding calls.fits calls.applied mirror.applyTo oneTaken
+    takes-applied : (k n : ℕ) → checks.fits m (Takes k n) s ≡ true → Applied m rooms (mirror.takes k n) (calls.applied m (Takes k n) s rooms)
+    unfolding checks.fits calls.applied mirror.applyTo oneTaken
     takes-applied k n e =
         let some : m .taken < m .added = ltb-true (m .taken) (m .added) (both-true (ltb (m .taken) (m .added)) _ e .0) in
         record {
@@ -151,9 +152,9 @@ module _ (c : Cabinet) (n : ℕ) (v : Standby n c) where
   abbrev Hears : Answer (Unit {0}) × (List ℕ × (List ℕ × List ℕ)) → Said × mirror.Standby → Type 0
   Hears x t = _≡_ {A = Said × mirror.Standby} (afterApply x .0, standbyOf n (afterApply x .1)) t × Heard x
 
-  apply-checks : (bytes : List ℕ) (t : Bool) → calls.notApplied m (readOf bytes) (drop 12 bytes) ≡ t
-      → _≡_ {A = Checks} ((6, either (calls.notLent (c .state) (length (c .rooms))) (isNot 8 (length {A = ℕ} (replicate 8 0)))) ∷ (16, calls.notApplied m (readOf bytes) (drop 12 bytes)) ∷ []) ((6, false) ∷ (16, t) ∷ [])
-  apply-checks bytes t e = rw (lent (v .kept) (omega arith), e) refl
+  apply-checks : (bytes : List ℕ) (t : Bool) → checks.notApplied m (readOf bytes) (drop 12 bytes) ≡ t
+      → _≡_ {A = Checks} ((6, checks.notLentWith 8 (c .state) (length (c .rooms)) (length {A = ℕ} (replicate 8 0))) ∷ (16, checks.notApplied m (readOf bytes) (drop 12 bytes)) ∷ []) ((6, false) ∷ (16, t) ∷ [])
+  apply-checks bytes t e = rw (lent-with (v .kept) (omega arith) 8, e) refl
 
   -- a refusal leaves all as it was
   unheard : (r : Refusal) → Hears (answer.refused r, (c .state, (c .rooms, replicate 8 0))) (mirror.refused r, b)
@@ -170,16 +171,16 @@ module _ (c : Cabinet) (n : ℕ) (v : Standby n c) where
     read : Reads m (c .rooms) s r x
     read = reads m (c .rooms) s r x (means .0)
 
-    same-applied : calls.notApplied m r s ≡ mirror.notApplied ownChecks x b
-    unfolding calls.notApplied mirror.notApplied standbyIn
+    same-applied : checks.notApplied m r s ≡ mirror.notApplied ownChecks x b
+    unfolding checks.notApplied mirror.notApplied standbyIn
     same-applied = by-bool (eqb (m .role) pool.standby) waits goes-on where
-      waits : eqb (m .role) pool.standby ≡ true → calls.notApplied m r s ≡ mirror.notApplied ownChecks x b
+      waits : eqb (m .role) pool.standby ≡ true → checks.notApplied m r s ≡ mirror.notApplied ownChecks x b
       waits t =
           let e : m .role ≡ pool.standby = eqb-true (m .role) pool.standby t in
           let level : sent m - n ≡ sent m = omega (arith, v .alone e) in
           rw (level, read .message, read .numbered, read .fitting, e) refl
 
-      goes-on : eqb (m .role) pool.standby ≡ false → calls.notApplied m r s ≡ mirror.notApplied ownChecks x b
+      goes-on : eqb (m .role) pool.standby ≡ false → checks.notApplied m r s ≡ mirror.notApplied ownChecks x b
       goes-on f =
           let e : m .role ≡ pool.alone = omega (arith, eqb-false (m .role) pool.standby f, v .kept .sound .least, v .kept .sound .greatest) in
           rw e refl
@@ -197,7 +198,7 @@ module _ (c : Cabinet) (n : ℕ) (v : Standby n c) where
     }
 
     -- one that is not refused finds a standby that is not alone, and is at most the next, and then one that fits
-    in-turn : mirror.notApplied ownChecks x b ≡ false → (m .role ≡ pool.standby) × (mirror.sequence x ≤ suc (sent m)) × (mirror.sequence x ≡ suc (sent m) → calls.fits m r s ≡ true)
+    in-turn : mirror.notApplied ownChecks x b ≡ false → (m .role ≡ pool.standby) × (mirror.sequence x ≤ suc (sent m)) × (mirror.sequence x ≡ suc (sent m) → checks.fits m r s ≡ true)
     unfolding mirror.notApplied standbyIn
     in-turn e =
         let p = neither (eqb (m .role) pool.alone) _ e in
@@ -225,7 +226,7 @@ module _ (c : Cabinet) (n : ℕ) (v : Standby n c) where
           heard (stateBytes (w .state)) (w .rooms) (record { kept = kept-new (w .sound); alone = λ _. z }),
         )
 
-    applies : m .role ≡ pool.standby → mirror.sequence x ≡ suc (sent m) → calls.fits m r s ≡ true → Applied m (c .rooms) x (calls.applied m r s (c .rooms))
+    applies : m .role ≡ pool.standby → mirror.sequence x ≡ suc (sent m) → checks.fits m r s ≡ true → Applied m (c .rooms) x (calls.applied m r s (c .rooms))
     applies here i fit = read .applying (rw (gone-is m (λ e. omega arith)) at (v .kept .sound .filled)) (omega (arith, means .1)) fit
 
     pub apply-follows : Hears (applyAt bytes c) (mirror.receive ownChecks x b)
@@ -236,7 +237,7 @@ module _ (c : Cabinet) (n : ℕ) (v : Standby n c) where
           level : m .role ≡ pool.standby → leb (mirror.sequence x) (b .applied) ≡ leb (mirror.sequence x) (sent m)
           level here = let z : sent m - n ≡ sent m = omega (arith, v .alone here) in ap (leb (mirror.sequence x)) z
 
-          go : (t : Bool) → leb (mirror.sequence x) (sent m) ≡ t → (m .role ≡ pool.standby) × (mirror.sequence x ≤ suc (sent m)) × (mirror.sequence x ≡ suc (sent m) → calls.fits m r s ≡ true)
+          go : (t : Bool) → leb (mirror.sequence x) (sent m) ≡ t → (m .role ≡ pool.standby) × (mirror.sequence x ≤ suc (sent m)) × (mirror.sequence x ≡ suc (sent m) → checks.fits m r s ≡ true)
               → let now : List ℕ × List ℕ = choose t (c .state, c .rooms) (calls.applied m r s (c .rooms)) in
               Hears (answer.done tt, (now .0, (now .1, acknowledgement (mirror.sequence x)))) (mirror.acknowledged (mirror.sequence x), choose t b after)
           go true e t = hears-old
@@ -246,8 +247,8 @@ module _ (c : Cabinet) (n : ℕ) (v : Standby n c) where
 
   -- bytes that are no message get 16
   pub apply-none : (bytes : List ℕ) → messageIn (readOf bytes) (drop 12 bytes) ≡ [] → apply bytes c .0 ≡ mirror.refused (refusal 16)
-  unfolding apply afterApply applyOf calls.notApplied first
-  apply-none bytes e = rw (lent (v .kept) (omega arith), none (readOf bytes) e, either-true (isNot pool.standby (m .role))) refl where
+  unfolding apply afterApply applyOf checks.notApplied first
+  apply-none bytes e = rw (lent-with (v .kept) (omega arith) 8, none (readOf bytes) e, either-true (isNot pool.standby (m .role))) refl where
     none : (r : Message) → messageIn r (drop 12 bytes) ≡ [] → isMessage r ≡ false
     none (Adds k i) e = let z : _≡_ {A = ℕ} 0 1 = cc in absurd (omega arith)
     none (Takes k i) e = let z : _≡_ {A = ℕ} 0 1 = cc in absurd (omega arith)

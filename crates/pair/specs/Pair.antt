@@ -14,7 +14,8 @@ use Rattle.mirror.specs.Mirror.{Strips, Said, Event, adds-strip, takes-strip, s
 use Rattle.master.specs.declared.State.{State}
 use Rattle.master.specs.State as pool
 use Rattle.master.specs.State.{stateIn, sent}
-use Rattle.pool.specs.Rooms.{roomsSize, roomAt, stripIn}
+use Rattle.checks.specs.Checks.{roomsSize}
+use Rattle.pool.specs.Rooms.{roomAt, stripIn}
 use Rattle.pool.specs.Calls.{addOf, takeOf, outstandingOf, acknowledgeOf, applyOf, goAloneOf}
 
 -- what the host of a master keeps for it, as bytes

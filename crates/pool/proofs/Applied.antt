@@ -1,117 +1,22 @@
--- What the standby makes of a message: whether it fits, whether it is refused, and what is applied. Assumes nothing.
-use Prim.Native.Nat.{ℕ, suc, _+_, _-_, _<_, _≤_}
-use native.Mathlib.Omega.{arith}
-use native.Mathlib.Numerals.{add-one}
+-- What the standby makes of a message that fits. Assumes nothing.
+use Prim.Native.Nat.{ℕ, _+_, _-_, _≤_}
 use mathlib.Core.Path.{_≡_, refl, sym, subst, ap, _∙_}
-use mathlib.Core.List.{List, [], _∷_}
-use mathlib.Core.Bool.{Bool, true, false, not}
-use lib.ListN.{length, take, drop, length-drop}
-use lib.Seq.{take-all}
-use lib.Dec.{eqb}
-use borrow.Author.Tests.{le-ltb, lt-ltb, eq-eqb, ne-eqb}
-use Rattle.refusal.specs.Refusal.{failed}
-use Rattle.refusal.specs.Answer.{Answer, done, refused, first, both, outcome, passes}
-use Rattle.refusal.specs.declared.Refusal.{Refusal}
-use Rattle.refusal.specs.declared.Check.{Check}
-use Rattle.refusal.specs.declared.Check.the-variants.{Passed, Failed}
-use Rattle.refusal.specs.declared.Outcome.{Outcome}
-use Rattle.refusal.specs.declared.Outcome.the-variants.{Done, Refused}
-use Rattle.refusal.proofs.First.{all-passed, one-failed, passes-done}
-use Rattle.strip.specs.Strip.{ownChecks, ownFormOf}
+use mathlib.Core.List.{List}
+use mathlib.Core.Bool.{Bool, true, false}
+use lib.ListN.{length, take, drop}
+use Rattle.refusal.specs.Answer.{both, passes}
+use Rattle.refusal.proofs.First.{passes-done, true-false}
+use Rattle.strip.specs.Strip.{ownChecks}
 use Rattle.strip.proofs.Good.{own-short}
-use Rattle.message.specs.Message.{readOf}
 use Rattle.message.specs.declared.Message.{Message}
 use Rattle.message.specs.declared.Message.the-variants.{Adds, Takes, Acknowledges, Unreadable}
-use Rattle.message.proofs.Laws.{adds-long}
 use Rattle.master.specs.declared.State.{State}
-use Rattle.master.specs.State.{stateBytes, sent}
-use Rattle.pool.specs.Rooms.{filled, cleared}
-use Rattle.pool.specs.Calls.{sequence, isMessage, fits, notApplied, oneMore, oneTaken, applied}
+use Rattle.master.specs.State.{stateBytes}
+use Rattle.pool.specs.Rooms.{cleared}
+use Rattle.checks.specs.Checks.{fits}
+use Rattle.pool.specs.Calls.{oneTaken, added, applied}
+use Rattle.checks.proofs.Fits.{whole-strip}
 
--- ---- an addition
-module _ (m : State) (n : ℕ) (s : List ℕ) (x : Outcome) (e : outcome x ≡ ownFormOf s) where
-  pub bad-form : (r : Refusal) → x ≡ Refused r → false ≡ fits m (Adds 0 n) s
-  unfolding fits passes
-  bad-form r f = rw (← one-failed (λ r. false) true tt (ownChecks s) (outcome x) r e (ap outcome f)) refl
-
-  module _ (f : x ≡ Done) where
-    good-form : passes (ownChecks s) ≡ true
-    unfolding passes
-    good-form = sym (all-passed (λ r. false) true tt (ownChecks s) (outcome x) tt e (ap outcome f) .0)
-
-    pub no-space : m .taken + 64 ≤ m .added → false ≡ fits m (Adds 0 n) s
-    unfolding fits
-    no-space h = rw (good-form, le-ltb (m .added - m .taken) 64 (omega arith)) refl
-
-    pub by-number : (y z : ℕ) → m .added < m .taken + 64 → y ≡ n → z ≡ m .added → eqb y (z + 1) ≡ fits m (Adds 0 n) s
-    unfolding fits
-    by-number y z h p q = rw (good-form, lt-ltb (m .added - m .taken) 64 (omega arith), p, q, add-one (m .added)) refl
-
--- ---- a taking
-module _ (m : State) (n : ℕ) where
-  pub none-there : m .added ≤ m .taken → false ≡ fits m (Takes 0 n) []
-  unfolding fits
-  none-there h = rw (le-ltb (m .taken) (m .added) h) refl
-
-  pub by-lowest : (y z : ℕ) → m .taken < m .added → y ≡ n → z ≡ m .taken → eqb y (z + 1) ≡ fits m (Takes 0 n) []
-  unfolding fits
-  by-lowest y z h p q = rw (lt-ltb (m .taken) (m .added) h, p, q, add-one (m .taken)) refl
-
--- ---- by what the message is
-pub whole-strip : (b : List ℕ) → take (length b - 12) (drop 12 b) ≡ drop 12 b
-whole-strip b = take-all (length b - 12) (drop 12 b) (omega (arith, length-drop 12 b))
-
-module _ (m : State) (x : Message) (b : List ℕ) where
-  pub has-strip : (k n : ℕ) → x ≡ readOf b → x ≡ Adds k n → 12 ≤ length b
-  has-strip k n e f = adds-long b k n (sym e ∙ f)
-
-  pub fits-adds : (k n : ℕ) (r : Bool) → x ≡ Adds k n → r ≡ fits m (Adds 0 n) (take (length b - 12) (drop 12 b)) → r ≡ fits m x (drop 12 b)
-  unfolding fits
-  fits-adds k n r f g = rw f (g ∙ ap (fits m (Adds 0 n)) (whole-strip b))
-
-  pub fits-takes : (k n : ℕ) (r : Bool) → x ≡ Takes k n → r ≡ fits m (Takes 0 n) [] → r ≡ fits m x (drop 12 b)
-  unfolding fits
-  fits-takes k n r f g = rw f g
-
-  pub fits-acknowledges : (k : ℕ) → x ≡ Acknowledges k → false ≡ fits m x (drop 12 b)
-  unfolding fits
-  fits-acknowledges k f = rw f refl
-
-  pub fits-unreadable : x ≡ Unreadable → false ≡ fits m x (drop 12 b)
-  unfolding fits
-  fits-unreadable f = rw f refl
-
--- ---- whether it is refused
-module _ (m : State) (x : Message) (s : List ℕ) where
-  pub no-standby : (m .role ≡ 3 → ⊥) → true ≡ notApplied m x s
-  unfolding notApplied
-  no-standby h = rw (ne-eqb (m .role) 3 h) refl
-
-  module _ (h : m .role ≡ 3) (k : Check) (e : failed k ≡ not (isMessage x)) where
-    pub no-message : k ≡ Failed → true ≡ notApplied m x s
-    unfolding notApplied
-    no-message f = let t : not (isMessage x) ≡ true = sym e ∙ ap failed f in rw (eq-eqb (m .role) 3 h, t) refl
-
-    module _ (p : k ≡ Passed) (n : ℕ) (f : n ≡ sequence x) where
-      is-one : not (isMessage x) ≡ false
-      is-one = sym e ∙ ap failed p
-
-      pub beyond : suc (sent m) < n → true ≡ notApplied m x s
-      unfolding notApplied
-      beyond g = rw (eq-eqb (m .role) 3 h, is-one, ← f, lt-ltb (suc (sent m)) n g) refl
-
-      pub old : n < suc (sent m) → false ≡ notApplied m x s
-      unfolding notApplied
-      old g = rw (eq-eqb (m .role) 3 h, is-one, ← f, le-ltb (suc (sent m)) n (omega arith), ne-eqb n (suc (sent m)) (λ z. omega arith)) refl
-
-      pub next : (r t : Bool) → n ≡ suc (sent m) → r ≡ fits m x s → r ≡ not t → t ≡ notApplied m x s
-      unfolding notApplied
-      next r t g i j = rw (eq-eqb (m .role) 3 h, is-one, ← f, le-ltb (suc (sent m)) n (omega arith), eq-eqb n (suc (sent m)) g, ← i, j) (sym (twice t)) where
-        twice : (t : Bool) → not (not t) ≡ t
-        twice true = refl
-        twice false = refl
-
--- ---- what is applied
 both-first : (a b : Bool) → both a b ≡ true → a ≡ true
 both-first true b e = refl
 both-first false b e = e
@@ -124,20 +29,19 @@ module _ (m : State) (x : Message) (b : List ℕ) where
       let g : fits m (Adds k n) (drop 12 b) ≡ true = subst (λ (y : Message). fits m y (drop 12 b) ≡ true) f e in
       rw (whole-strip b) (own-short (drop 12 b) (passes-done (ownChecks (drop 12 b)) (both-first (passes (ownChecks (drop 12 b))) _ g)))
 
-  pub applied-adds : (k n : ℕ) (rooms st′ rooms′ : List ℕ) → x ≡ Adds k n → st′ ≡ stateBytes (record { role = 3; added = m .added + 1; taken = m .taken })
-      → rooms′ ≡ filled rooms (m .added) (take (length b - 12) (drop 12 b)) → (st′, rooms′) ≡ applied m x (drop 12 b) rooms
-  unfolding applied oneMore
-  applied-adds k n rooms st′ rooms′ f p q = rw (f, p, q, whole-strip b) refl
+  pub applied-adds : (k n : ℕ) (rooms : List ℕ) (new : List ℕ × List ℕ) → x ≡ Adds k n → new ≡ added m 3 rooms (take (length b - 12) (drop 12 b)) → new ≡ applied m x (drop 12 b) rooms
+  unfolding applied
+  applied-adds k n rooms new f p = p ∙ rw (f, whole-strip b) refl
 
-  pub applied-takes : (k n : ℕ) (rooms st′ rooms′ : List ℕ) → x ≡ Takes k n → st′ ≡ stateBytes (record { role = 3; added = m .added; taken = m .taken + 1 })
-      → rooms′ ≡ cleared rooms (m .taken) → (st′, rooms′) ≡ applied m x (drop 12 b) rooms
+  pub applied-takes : (k n : ℕ) (rooms st′ rooms′ : List ℕ) → x ≡ Takes k n → st′ ≡ stateBytes (record { role = 3; added = m .added; taken = m .taken + 1 }) → rooms′ ≡ cleared rooms (m .taken) → (st′, rooms′) ≡ applied m x (drop 12 b) rooms
   unfolding applied oneTaken
   applied-takes k n rooms st′ rooms′ f p q = rw (f, p, q) refl
 
-  pub applied-acknowledges : (k : ℕ) (rooms st′ : List ℕ) → x ≡ Acknowledges k → st′ ≡ stateBytes m → (st′, rooms) ≡ applied m x (drop 12 b) rooms
-  unfolding applied
-  applied-acknowledges k rooms st′ f p = rw (f, p) refl
+  -- nothing else fits
+  pub fits-no-acknowledgement : (k : ℕ) {A : Type 0} → fits m x (drop 12 b) ≡ true → x ≡ Acknowledges k → A
+  unfolding fits
+  fits-no-acknowledgement k e f = absurd (true-false (sym e ∙ ap (λ (y : Message). fits m y (drop 12 b)) f))
 
-  pub applied-unreadable : (rooms st′ : List ℕ) → x ≡ Unreadable → st′ ≡ stateBytes m → (st′, rooms) ≡ applied m x (drop 12 b) rooms
-  unfolding applied
-  applied-unreadable rooms st′ f p = rw (f, p) refl
+  pub fits-not-unreadable : {A : Type 0} → fits m x (drop 12 b) ≡ true → x ≡ Unreadable → A
+  unfolding fits
+  fits-not-unreadable e f = absurd (true-false (sym e ∙ ap (λ (y : Message). fits m y (drop 12 b)) f))

@@ -1,4 +1,3 @@
 pub mod Places
-pub mod Admitted
 pub mod Applied
 pub mod Promise

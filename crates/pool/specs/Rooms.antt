@@ -5,9 +5,6 @@ use lib.ListN.{length, take, drop, replicate}
 use Rattle.strip.specs.Strip.{lengthField}
 use Rattle.message.specs.Message.{numberBytes}
 
-abbrev pub roomsSize : ℕ
-roomsSize = 64 * 676
-
 unfoldable pub roomAt : List ℕ → ℕ → List ℕ
 roomAt rooms n = take 676 (drop (676 * (n % 64)) rooms)
 

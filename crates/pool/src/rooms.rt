@@ -2,16 +2,18 @@
 ghost use mathlib.Core.Path.{_≡_};
 ghost use Prim.Native.Nat.{_+_, _*_, _%_, _<_, _≤_};
 ghost use lib.ListN.{length};
+ghost use Rattle.refusal.specs.Answer.{choose};
 ghost use Rattle.message.specs.Message.{numberBytes};
 ghost use Rattle.master.specs.State.{stateBytes};
-ghost use Rattle.pool.specs.Rooms.{roomsSize, padded, filled, cleared, stripIn, handing};
+ghost use Rattle.checks.specs.Checks.{roomsSize};
+ghost use Rattle.pool.specs.Rooms.{padded, filled, cleared, stripIn, handing, handingNone};
 use master::State;
 
-pub fn write_state(master: State, state: &mut [u8])
+pub fn write_state(role: u8, added: u32, taken: u32, state: &mut [u8])
     requires { ⌜ length (now state) ≡ 9 ⌝ }
-    ensures { λ _. ⌜ now (state .exit) ≡ stateBytes master ⌝ }
+    ensures { λ _. ⌜ now (state .exit) ≡ stateBytes (record { role = role; added = added; taken = taken }) ⌝ }
 {
-    let all = master::state_bytes(master);
+    let all = master::state_bytes(State { role, added, taken });
     bytes::copy(&all, state);
 }
 
@@ -65,6 +67,19 @@ pub fn hand_out(rooms: &mut [u8], n: u32, number: &mut [u8], strip: &mut [u8])
     bytes::copy(&rooms[start..start + 676], strip);
     clear(rooms, n);
     write_number(n + 1, number);
+}
+
+// Whether or not it is handed out: where not, the number is 0, and nothing else changes.
+pub fn hand_out_if(due: bool, rooms: &mut [u8], n: u32, number: &mut [u8], strip: &mut [u8])
+    requires { ⌜ (length (now rooms) ≡ roomsSize) × (length (now number) ≡ 4) ⌝ }
+    requires { ⌜ (length (now strip) ≡ 676) × (n < 4294967295) ⌝ }
+    ensures { λ _. ⌜ (now (rooms .exit), (now (number .exit), now (strip .exit))) ≡ choose due (handing (now (rooms .entry)) n) (handingNone (now (rooms .entry)) (now (strip .entry))) ⌝ }
+{
+    if due {
+        hand_out(rooms, n, number, strip);
+        return;
+    }
+    write_number(0, number);
 }
 
 // How many bytes of a room are its strip, whatever the room holds.

@@ -9,8 +9,10 @@ use borrow.Author.Tests.{eqb-true, not-false}
 use Rattle.refusal.specs.declared.Refusal.{Refusal}
 use Rattle.refusal.specs.declared.Check.{Check}
 use Rattle.refusal.specs.declared.Check.the-variants.{Passed, Failed}
+use Rattle.refusal.specs.declared.Outcome.{Outcome}
+use Rattle.refusal.specs.declared.Outcome.the-variants.{Done, Refused}
 use Rattle.refusal.specs.Refusal.{refusal, failed}
-use Rattle.refusal.specs.Answer.{Answer, done, refused, answerNumber, numbered, first, passes, either, both, isNot, noneOf}
+use Rattle.refusal.specs.Answer.{Answer, done, refused, answerNumber, numbered, first, passes, either, both, isNot, noneOf, outcome}
 
 both-on : (b : Bool) → b ≡ both b true
 both-on true = refl
@@ -137,13 +139,20 @@ passes-done [] e = refl
 passes-done ((n, true) ∷ checks) e = let z : _≡_ {A = ℕ} 0 1 = cc in absurd (omega arith)
 passes-done ((n, false) ∷ checks) e = passes-done checks e
 
+pub true-false : true ≡ false → ⊥
+true-false e = let z : _≡_ {A = ℕ} 0 1 = cc in omega arith
+
+pub passes-first : (n : ℕ) (b : Bool) (checks : List (ℕ × Bool)) → passes ((n, b) ∷ checks) ≡ true → (b ≡ false) × (passes checks ≡ true)
+unfolding passes first
+passes-first n true checks e = absurd (true-false (sym e))
+passes-first n false checks e = (refl, e)
+
 -- and of two lists of checks, none of either
-pub parts-passed : (front rest : List (ℕ × Bool)) (x : Unit {0}) → first (front ++ rest) refused (done x) ≡ done x
-    → (first front refused (done x) ≡ done x) × (first rest refused (done x) ≡ done x)
-unfolding first
-parts-passed [] rest x e = (refl, e)
-parts-passed ((n, true) ∷ front) rest x e = let y : _≡_ {A = ℕ} 0 1 = cc in absurd (omega arith)
-parts-passed ((n, false) ∷ front) rest x e = parts-passed front rest x e
+pub passes-both : (k l : List (ℕ × Bool)) → passes (k ++ l) ≡ true → (passes k ≡ true) × (passes l ≡ true)
+unfolding passes first
+passes-both [] l e = (refl, e)
+passes-both ((n, true) ∷ k) l e = absurd (true-false (sym e))
+passes-both ((n, false) ∷ k) l e = passes-both k l e
 
 -- a part of what is given, or of what a refusal gives
 pub first-part : {X Y : Type 0} (part : X → Y) (checks : List (ℕ × Bool)) (deny : Refusal → X) (give : X) → part (first checks deny give) ≡ first checks (λ r. part (deny r)) (part give)
@@ -155,3 +164,16 @@ first-part part ((n, false) ∷ checks) deny give = first-part part checks deny 
 -- an answer from below, as its number
 pub numbered-as : {L : Type 0} (a : Answer (Unit {0})) (num : ℕ) (after : L) (promised : Answer (Unit {0}) × L) → num ≡ answerNumber a → (a, after) ≡ promised → (num, after) ≡ numbered promised
 numbered-as a num after promised q g = ap (λ (x : ℕ). (x, after)) q ∙ ap numbered g
+
+-- A call that checks, then does: it lends parts, and leaves them new where its checks pass.
+module _ {X : Type 0} (checks : List (ℕ × Bool)) (lent new : X) (v : Outcome) (e : outcome v ≡ first checks refused (done tt)) where
+  pub call-refused : (r : Refusal) → v ≡ Refused r → _≡_ {A = Answer (Unit {0}) × X} (outcome v, lent) (first checks (λ r. (refused r, lent)) (done tt, new))
+  call-refused r f = ap (λ (x : Answer (Unit {0})). (x, lent)) (ap outcome f) ∙ one-failed (λ r. (refused r, lent)) (done tt, new) tt checks (outcome v) r e (ap outcome f)
+
+  module _ (f : v ≡ Done) where
+    pub call-done : (x : X) → x ≡ new → _≡_ {A = Answer (Unit {0}) × X} (outcome v, x) (first checks (λ r. (refused r, lent)) (done tt, new))
+    call-done x h = ap (λ (y : Answer (Unit {0})). (y, x)) (ap outcome f) ∙ ap (λ (y : X). (done tt, y)) h ∙ all-passed (λ r. (refused r, lent)) (done tt, new) tt checks (outcome v) tt e (ap outcome f) .0
+
+pub call-passes : (checks : List (ℕ × Bool)) (v : Outcome) → outcome v ≡ first checks refused (done tt) → v ≡ Done → passes checks ≡ true
+unfolding passes
+call-passes checks v e f = sym (all-passed (λ r. false) true tt checks (outcome v) tt e (ap outcome f) .0)

@@ -5,7 +5,6 @@ use lib.ListN.{length}
 use borrow.Author.Needs.{needs}
 use Rattle.play.proofs.masters.make_strip.Statement.{statement}
 use Rattle.play.proofs.masters.make_strip.Tie as tie
-use Rattle.play.proofs.masters.size_of.Reads as size-of-reads
 
 abbrev Inv-loop : tie.InvT-loop
 Inv-loop key-size made behind strip₀ i₀ strip i = (i ≤ 676) × (length strip ≡ 676)

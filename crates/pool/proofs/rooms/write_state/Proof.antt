@@ -1,7 +1,7 @@
 -- `pool::rooms::write_state` meets its contract: from the nine bytes, copied over all of the part. Assumes nothing.
+use Rattle.master.proofs.Laws.{copied, state-length}
 use native.Mathlib.Omega.{arith}
 use borrow.Author.Needs.{needs}
-use Rattle.master.proofs.Laws.{copied, state-length}
 use Rattle.pool.proofs.rooms.write_state.Statement.{statement}
 use Rattle.pool.proofs.rooms.write_state.Tie as tie
 

@@ -1,0 +1,84 @@
+-- What each call of a pool refuses, in request §8's order: the numbers, each with whether it applies.
+use Prim.Native.Nat.{ℕ, suc, _-_, _*_}
+use mathlib.Core.List.{List, [], _∷_, _++_}
+use mathlib.Core.Bool.{Bool, true, false, not}
+use lib.ListN.{drop}
+use lib.Dec.{eqb, ltb}
+use Rattle.refusal.specs.Answer.{passes, either, both, isNot}
+use Rattle.strip.specs.Strip.{ownChecks}
+use Rattle.message.specs.Message.{readOf}
+use Rattle.message.specs.declared.Message.{Message}
+use Rattle.message.specs.declared.Message.the-variants.{Adds, Takes, Acknowledges, Unreadable}
+use Rattle.master.specs.declared.State.{State}
+use Rattle.master.specs.State.{standby, stateIn, sent, noState, waiting, usedUp, noRoom, noneHeld, isStandby}
+
+-- 64 rooms of 676 bytes
+abbrev pub roomsSize : ℕ
+roomsSize = 64 * 676
+
+-- 6: state or rooms not lent as they must be; or a further part not of its size; for a strip handed out, its number not as four bytes or the strip not as 676
+unfoldable pub notLent : List ℕ → ℕ → Bool
+notLent st rooms = either (noState st) (isNot roomsSize rooms)
+
+unfoldable pub notLentWith : ℕ → List ℕ → ℕ → ℕ → Bool
+notLentWith size st rooms part = either (notLent st rooms) (isNot size part)
+
+unfoldable pub notLentOut : List ℕ → ℕ → ℕ → ℕ → Bool
+notLentOut st rooms number strip = either (notLentWith 4 st rooms number) (isNot 676 strip)
+
+-- ---- adding, which a standby does not: "23, 24; the strip's own in document 01's order, 9 when its key size is none of the three, then 14"
+abbrev pub addChecks : List ℕ → ℕ → List ℕ → List (ℕ × Bool)
+addChecks st rooms s =
+    (6, either (notLent st rooms) (isStandby (stateIn st))) ∷ (23, waiting (stateIn st)) ∷ (24, usedUp (stateIn st)) ∷ ownChecks s ++ ((14, noRoom (stateIn st)) ∷ [])
+
+-- ---- taking: "23, 24; 15"
+abbrev pub takeChecks : List ℕ → ℕ → ℕ → ℕ → List (ℕ × Bool)
+takeChecks st rooms number strip =
+    (6, either (notLentOut st rooms number strip) (isStandby (stateIn st))) ∷ (23, waiting (stateIn st)) ∷ (24, usedUp (stateIn st)) ∷ (15, noneHeld (stateIn st)) ∷ []
+
+-- ---- the outstanding message
+abbrev pub outstandingChecks : List ℕ → ℕ → ℕ → List (ℕ × Bool)
+outstandingChecks st rooms message = (6, notLentWith 688 st rooms message) ∷ []
+
+-- ---- an acknowledgement
+abbrev pub isAcknowledgement : Message → Bool
+isAcknowledgement (Adds k n) = false
+isAcknowledgement (Takes k n) = false
+isAcknowledgement (Acknowledges k) = true
+isAcknowledgement Unreadable = false
+
+abbrev pub acknowledgeChecks : List ℕ → ℕ → List ℕ → ℕ → ℕ → List (ℕ × Bool)
+acknowledgeChecks st rooms bytes number strip = (6, notLentOut st rooms number strip) ∷ (16, not (isAcknowledgement (readOf bytes))) ∷ []
+
+-- ---- at the standby. What a message asks for does not fit where it "adds a strip of bad form, adds to a full pool, adds a number other than the last added plus 1, or takes a number that is not the lowest held"
+unfoldable pub fits : State → Message → List ℕ → Bool
+fits m (Adds k n) s = both (passes (ownChecks s)) (both (ltb (m .added - m .taken) 64) (eqb n (suc (m .added))))
+fits m (Takes k n) s = both (ltb (m .taken) (m .added)) (eqb n (suc (m .taken)))
+fits m (Acknowledges k) s = false
+fits m Unreadable s = false
+
+abbrev pub isMessage : Message → Bool
+isMessage (Adds k n) = true
+isMessage (Takes k n) = true
+isMessage (Acknowledges k) = false
+isMessage Unreadable = false
+
+abbrev pub sequence : Message → ℕ
+sequence (Adds k n) = k
+sequence (Takes k n) = k
+sequence (Acknowledges k) = k
+sequence Unreadable = 0
+
+-- 16: no standby or one that is alone, no message, "a message beyond the next, or a next one" that does not fit
+unfoldable pub notApplied : State → Message → List ℕ → Bool
+notApplied m x s =
+    either (isNot standby (m .role))
+    (either (not (isMessage x)) (either (ltb (suc (sent m)) (sequence x)) (both (eqb (sequence x) (suc (sent m))) (not (fits m x s)))))
+
+-- the strip of a message is all from its thirteenth byte on
+abbrev pub applyChecks : List ℕ → ℕ → List ℕ → ℕ → List (ℕ × Bool)
+applyChecks st rooms bytes acknowledgement = (6, notLentWith 8 st rooms acknowledgement) ∷ (16, notApplied (stateIn st) (readOf bytes) (drop 12 bytes)) ∷ []
+
+-- ---- going on alone, which no active master does
+abbrev pub goAloneChecks : List ℕ → List (ℕ × Bool)
+goAloneChecks st = (6, either (noState st) (ltb (stateIn st .role) standby)) ∷ []
