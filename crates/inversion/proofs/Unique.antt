@@ -2,12 +2,12 @@
 use mathlib.Core.Path.{_≡_, ap, ap₂}
 use mathlib.Core.List.{List}
 use Prim.Native.Nat.{ℕ}
-use native.Mathlib.Omega.{arith}
 use Rattle.refusal.specs.Answer.{Answer, done, refused}
 use Rattle.refusal.proofs.Unique.{unique, told-with}
 use Rattle.inversion.specs.declared.Masked.{Masked}
 use Rattle.inversion.specs.declared.Masked.the-variants.{Byte, Refused}
 use Rattle.inversion.specs.Answers.{byteAndMask}
+use Rattle.refusal.proofs.First.{clash}
 
 abbrev given : Answer (ℕ × ℕ) → ℕ × ℕ
 given (done p) = p
@@ -16,8 +16,8 @@ given (refused r) = (0, 0)
 masked-told : (a b : Masked) → byteAndMask a ≡ byteAndMask b → a ≡ b
 masked-told (Byte v s) (Byte w t) e = ap₂ Byte (ap (λ (y : Answer (ℕ × ℕ)). given y .0) e) (ap (λ (y : Answer (ℕ × ℕ)). given y .1) e)
 masked-told (Refused r) (Refused s) e = cc
-masked-told (Byte v s) (Refused r) e = let z : _≡_ {A = ℕ} 0 1 = cc in absurd (omega arith)
-masked-told (Refused r) (Byte v s) e = let z : _≡_ {A = ℕ} 0 1 = cc in absurd (omega arith)
+masked-told (Byte v s) (Refused r) e = clash cc
+masked-told (Refused r) (Byte v s) e = clash cc
 
 pub masked-unique : (promised : Answer (ℕ × ℕ)) (a b : Masked) → byteAndMask a ≡ promised → byteAndMask b ≡ promised → a ≡ b
 masked-unique = unique byteAndMask masked-told

@@ -11,7 +11,7 @@ use Rattle.refusal.specs.Refusal.{failed}
 use Rattle.refusal.specs.Answer.{choose, either, both, isNot}
 use Rattle.refusal.specs.declared.Check.{Check}
 use Rattle.refusal.specs.declared.Check.the-variants.{Passed, Failed}
-use Rattle.refusal.proofs.First.{either-first, neither}
+use Rattle.refusal.proofs.First.{clash, either-first, neither}
 use Rattle.strip.specs.Strip.{badFraming}
 use Rattle.strip.proofs.Good.{unspoilt}
 use Rattle.message.specs.Message.{misframed, isOf, numberAt, readOf}
@@ -73,11 +73,11 @@ pub adds-long : (m : List ℕ) (k n : ℕ) → readOf m ≡ Adds k n → 12 ≤ 
 unfolding readOf isOf
 adds-long m k n e = leb-true 12 (length m) (go (misframed m) (eqb (getD m 3 0) 1) (leb 12 (length m)) (both (eqb (getD m 3 0) 2) (eqb (length m) 12)) (both (eqb (getD m 3 0) 3) (eqb (length m) 8)) e) where
   go : (a b c d f : Bool) → choose a Unreadable (choose (both b c) (Adds (numberAt m 4) (numberAt m 8)) (choose d (Takes (numberAt m 4) (numberAt m 8)) (choose f (Acknowledges (numberAt m 4)) Unreadable))) ≡ Adds k n → c ≡ true
-  go true b c d f e = let z : _≡_ {A = ℕ} 0 1 = cc in absurd (omega arith)
+  go true b c d f e = clash cc
   go false true true d f e = refl
-  go false true false true f e = let z : _≡_ {A = ℕ} 0 1 = cc in absurd (omega arith)
-  go false true false false true e = let z : _≡_ {A = ℕ} 0 1 = cc in absurd (omega arith)
-  go false true false false false e = let z : _≡_ {A = ℕ} 0 1 = cc in absurd (omega arith)
-  go false false c true f e = let z : _≡_ {A = ℕ} 0 1 = cc in absurd (omega arith)
-  go false false c false true e = let z : _≡_ {A = ℕ} 0 1 = cc in absurd (omega arith)
-  go false false c false false e = let z : _≡_ {A = ℕ} 0 1 = cc in absurd (omega arith)
+  go false true false true f e = clash cc
+  go false true false false true e = clash cc
+  go false true false false false e = clash cc
+  go false false c true f e = clash cc
+  go false false c false true e = clash cc
+  go false false c false false e = clash cc

@@ -10,7 +10,7 @@ use mathlib.Core.Bool.{true, false}
 use lib.ListN.{length}
 use lib.Dec.{leb, eqb}
 use Rattle.refusal.specs.Answer.{choose, passes}
-use Rattle.refusal.proofs.First.{neither}
+use Rattle.refusal.proofs.First.{clash, neither}
 use Rattle.mirror.specs.Mirror.{most, Strips, Pool, lowest, put, less, Said, done, handed, acknowledged, Checks, noRoom, noneHeld, Out, nothing, adding, taking, Active, waiting, add, take, settled, acknowledge, Message, adds, takes, sequence, messageOf, outstanding, Standby, lowestIs, fits, applyTo, notApplied, receive, goAlone, addAlone, takeAlone, paper, World, Event, adds-strip, takes-strip, sends, arrives, answered, cuts, adds-alone, takes-alone, at, noteHanded, withActive, withAdded, withSent, withStandby, withAlone, arrived, came, addedAlone, step, empty, start, after}
 use Rattle.mirror.specs.Claims.{All, In, Above}
 use Rattle.refusal.proofs.First.{true-false, passes-first, passes-both}
@@ -61,7 +61,7 @@ pub numbered : (a : Active) (m : Message) → outstanding a ≡ m ∷ [] → seq
 unfolding outstanding
 numbered a m e = go (a .out) e where
   go : (o : Out) → messageOf (a .sent) o ≡ m ∷ [] → sequence m ≡ a .sent
-  go nothing e = let z : _≡_ {A = ℕ} 0 1 = cc in absurd (omega arith)
+  go nothing e = clash cc
   go (adding (n, s)) e = let q : m ≡ adds (a .sent) n s = cc in rw q refl
   go (taking (n, s)) e = let q : m ≡ takes (a .sent) n = cc in rw q refl
 
@@ -70,7 +70,7 @@ module _ {own : List ℕ → Checks} {r : Pool} {k : ℕ} {a : Active} where
   pub quiet : a .out ≡ nothing → Sync own r k a → (a .pool ≡ r) × (a .sent ≡ k)
   unfolding outstanding
   quiet o (level e f) = (e, f)
-  quiet o (ahead m e f g x) = let z : _≡_ {A = ℕ} 0 1 = cc in absurd (omega arith)
+  quiet o (ahead m e f g x) = clash cc
 
   followed : a .sent ≤ k → Sync own r k a → (a .pool ≡ r) × (a .sent ≡ k)
   followed h (level e f) = (e, f)
@@ -87,7 +87,7 @@ module _ {own : List ℕ → Checks} {r : Pool} {k : ℕ} {a : Active} where
 line-new : {k : ℕ} {a a′ : Active} {link : List Message} {back : List ℕ} → a .out ≡ nothing → Line k a link back → Line k a′ link back
 unfolding outstanding
 line-new {link} o v = record {
-  messages = all-map link (λ m. ⊎-elim inl (λ e. let z : _≡_ {A = ℕ} 0 1 = cc in absurd (omega arith))) (v .messages);
+  messages = all-map link (λ m. ⊎-elim inl (λ e. clash cc)) (v .messages);
   answers = v .answers;
 }
 

@@ -11,7 +11,7 @@ use borrow.Author.Tests.{eqb-false, leb-false, ne-eqb}
 use Rattle.refusal.specs.Refusal.{refusal}
 use Rattle.refusal.specs.Answer as answer
 use Rattle.refusal.specs.Answer.{first, choose, either, both, passes}
-use Rattle.refusal.proofs.First.{neither, true-false, passes-first, passes-both}
+use Rattle.refusal.proofs.First.{clash, neither, true-false, passes-first, passes-both}
 use Rattle.strip.specs.Strip.{ownChecks}
 use Rattle.message.specs.Message as message
 use Rattle.message.specs.Message.{addition, readOf}
@@ -207,7 +207,7 @@ module _ (c : Cabinet) (v : Active c) where
     none : (r : Message) → numberIn r ≡ [] → isAcknowledgement r ≡ false
     none (Adds k n) e = refl
     none (Takes k n) e = refl
-    none (Acknowledges k) e = let z : _≡_ {A = ℕ} 0 1 = cc in absurd (omega arith)
+    none (Acknowledges k) e = clash cc
     none Unreadable e = refl
 
   -- ---- what it sends

@@ -12,7 +12,7 @@ use Rattle.refusal.specs.declared.Refusal.{Refusal}
 use Rattle.refusal.specs.Refusal.{refusal}
 use Rattle.refusal.specs.Answer as answer
 use Rattle.refusal.specs.Answer.{Answer, first, choose, either, both, isNot, passes}
-use Rattle.refusal.proofs.First.{neither, true-false, passes-first}
+use Rattle.refusal.proofs.First.{clash, neither, true-false, passes-first}
 use Rattle.strip.specs.Strip.{ownChecks}
 use Rattle.message.specs.Message.{acknowledgement, readOf}
 use Rattle.message.specs.declared.Message.{Message}
@@ -129,8 +129,8 @@ module _ (m : State) (rooms s : List ℕ) where
   reads (Takes k n) x e =
       let q : mirror.takes k n ≡ x = cc in
       subst (Reads m rooms s (Takes k n)) q (record { message = refl; numbered = refl; fitting = takes-fit k n; applying = λ f small. takes-applied f small k n })
-  reads (Acknowledges k) x e = let z : _≡_ {A = ℕ} 0 1 = cc in absurd (omega arith)
-  reads Unreadable x e = let z : _≡_ {A = ℕ} 0 1 = cc in absurd (omega arith)
+  reads (Acknowledges k) x e = clash cc
+  reads Unreadable x e = clash cc
 
 standby-is : {p p′ : mirror.Pool} {n n′ : ℕ} {t t′ : Bool} → p ≡ p′ → n ≡ n′ → t ≡ t′ → _≡_ {A = mirror.Standby} (record { pool = p; applied = n; alone = t }) (record { pool = p′; applied = n′; alone = t′ })
 standby-is e f g = cc
@@ -250,7 +250,7 @@ module _ (c : Cabinet) (n : ℕ) (v : Standby n c) where
   unfolding apply afterApply applyOf checks.notApplied first
   apply-none bytes e = rw (lent-with (v .kept) (omega arith) 8, none (readOf bytes) e, either-true (isNot pool.standby (m .role))) refl where
     none : (r : Message) → messageIn r (drop 12 bytes) ≡ [] → isMessage r ≡ false
-    none (Adds k i) e = let z : _≡_ {A = ℕ} 0 1 = cc in absurd (omega arith)
-    none (Takes k i) e = let z : _≡_ {A = ℕ} 0 1 = cc in absurd (omega arith)
+    none (Adds k i) e = clash cc
+    none (Takes k i) e = clash cc
     none (Acknowledges k) e = refl
     none Unreadable e = refl

@@ -13,7 +13,8 @@ use Rattle.fips197.proofs.Below.{Each, Each.none, Each._▸_, each-at, below-or
 use Rattle.fips197.proofs.Xor.{comm}
 use Rattle.tower.specs.Tower.{hi, lo, join, pairProduct, pairInverse, nibbleProduct, nibbleInverse, exchange, inverseOver}
 use Rattle.points.specs.Points.{masked, fourteen, eight, points, point}
-use Rattle.points.specs.Counts.{count, counted, pick, share, listed, table}
+use Rattle.refusal.specs.Answer.{choose}
+use Rattle.points.specs.Counts.{count, counted, share, listed, table}
 use Rattle.points.specs.Claims.{Demand3}
 use Rattle.tower.proofs.Split.{hi-xor, lo-xor, hi-lt, lo-lt, join-lt}
 use Rattle.tower.proofs.Level.{pairLaws, nibbleLaws}
@@ -165,7 +166,7 @@ scaled : (c n z o v : ℕ) → c * share n z o v ≡ share n (c * z) (c * o) v
 scaled c n z o zero = refl
 scaled c n z o (suc v) = go (ltb (suc v) n)
   where
-    go : (b : Bool) → c * pick b o 0 ≡ pick b (c * o) 0
+    go : (b : Bool) → c * choose b o 0 ≡ choose b (c * o) 0
     go true = refl
     go false = native.Mathlib.Nat.mul-zero c
 

@@ -3,12 +3,9 @@ use Prim.Native.Nat.{ℕ, zero, suc, _+_, _/_, _%_, _^_}
 use mathlib.Core.Bool.{Bool, true, false}
 use mathlib.Core.List.{List, [], _∷_}
 use lib.Dec.{eqb, ltb, leb}
+use Rattle.refusal.specs.Answer.{choose}
 use Rattle.fips197.specs.Field.{_⊕_}
 use Rattle.points.specs.Points.{point}
-
-abbrev pub pick : {A : Type 0} → Bool → A → A → A
-pick true x y = x
-pick false x y = y
 
 -- how many numbers below n pass a test
 abbrev pub one : Bool → ℕ
@@ -60,14 +57,14 @@ table =
 
 abbrev pub within : ℕ → List (ℕ × ℕ) → Bool
 within n [] = false
-within n ((from, to) ∷ more) = pick (leb from n) (pick (leb n to) true (within n more)) (within n more)
+within n ((from, to) ∷ more) = choose (leb from n) (choose (leb n to) true (within n more)) (within n more)
 
 -- how often a row has the value v: a value that is no nibble or no pair, never
 abbrev pub share : ℕ → ℕ → ℕ → ℕ → ℕ
 share values zeros others zero = zeros
-share values zeros others (suc v) = pick (ltb (suc v) values) others 0
+share values zeros others (suc v) = choose (ltb (suc v) values) others 0
 
 -- the table's number for point n and the value v
 abbrev pub listed : List Row → ℕ → ℕ → ℕ
 listed [] n v = 0
-listed (row ∷ more) n v = pick (within n (row .points)) (share (row .values) (row .zeros) (row .others) v) (listed more n v)
+listed (row ∷ more) n v = choose (within n (row .points)) (share (row .values) (row .zeros) (row .others) v) (listed more n v)

@@ -14,6 +14,10 @@ use Rattle.refusal.specs.declared.Outcome.the-variants.{Done, Refused}
 use Rattle.refusal.specs.Refusal.{refusal, failed}
 use Rattle.refusal.specs.Answer.{Answer, done, refused, answerNumber, numbered, first, passes, either, both, isNot, noneOf, outcome}
 
+-- two cases that exclude each other
+pub clash : {P : Type 0} → _≡_ {A = ℕ} 0 1 → P
+clash e = absurd (omega arith)
+
 both-on : (b : Bool) → b ≡ both b true
 both-on true = refl
 both-on false = refl
@@ -60,7 +64,7 @@ one-of : {P : Type 0} (x y z : Bool) → both (not x) (both (not y) (both (not z
 one-of true y z e f g h = f refl
 one-of false true z e f g h = g refl
 one-of false false true e f g h = h refl
-one-of false false false e f g h = let t : _≡_ {A = ℕ} 0 1 = cc in absurd (omega arith)
+one-of false false false e f g h = clash cc
 
 -- which of three lengths a check that passed has found
 pub found : {P : Type 0} (a b c n : ℕ) (k : Check) → failed k ≡ noneOf (a ∷ b ∷ c ∷ []) n → k ≡ Passed → (n ≡ a → P) → (n ≡ b → P) → (n ≡ c → P) → P
@@ -76,7 +80,7 @@ either-second a b k x e p h = h ∙ ap (λ (t : Bool). either t b) (sym (ap fail
 
 -- where not one of two applies, neither does
 pub neither : (a b : Bool) → either a b ≡ false → (a ≡ false) × (b ≡ false)
-neither true b e = let t : _≡_ {A = ℕ} 0 1 = cc in absurd (omega arith)
+neither true b e = clash cc
 neither false b e = (refl, e)
 
 -- An answer passed on from a call below with the same checks. `tell` is what it says: the call's own refusal, or done.
@@ -84,7 +88,7 @@ module _ {X A : Type 0} (deny : Refusal → X) (tell : X → Answer A) (tells : 
   pub refusal-passed : (checks : List (ℕ × Bool)) (give give′ x : X) (r : Refusal) (p : A) → tell x ≡ refused r → tell give ≡ done p
       → x ≡ first checks deny give → x ≡ first checks deny give′
   unfolding first
-  refusal-passed [] give give′ x r p t g e = let z : _≡_ {A = ℕ} 0 1 = cc in absurd (omega arith)
+  refusal-passed [] give give′ x r p t g e = clash cc
   refusal-passed ((n, true) ∷ checks) give give′ x r p t g e = e
   refusal-passed ((n, false) ∷ checks) give give′ x r p t g e = refusal-passed checks give give′ x r p t g e
 
@@ -94,7 +98,7 @@ module _ {X A : Type 0} (deny : Refusal → X) (tell : X → Answer A) (tells : 
   answer-passed [] give give′ x v t e = (e, refl)
   answer-passed ((n, true) ∷ checks) give give′ x v t e =
       let f : refused (refusal n) ≡ done v = sym (tells (refusal n)) ∙ ap tell (sym e) ∙ t in
-      let z : _≡_ {A = ℕ} 0 1 = cc in absurd (omega arith)
+      clash cc
   answer-passed ((n, false) ∷ checks) give give′ x v t e = answer-passed checks give give′ x v t e
 
 -- what the checks alone answered, for a call that also lends parts
@@ -102,12 +106,12 @@ module _ {X A : Type 0} (deny : Refusal → X) (give : X) (y : A) where
   pub all-passed : (checks : List (ℕ × Bool)) (x : Answer A) (z : A) → x ≡ first checks refused (done y) → x ≡ done z → (give ≡ first checks deny give) × (z ≡ y)
   unfolding first
   all-passed [] x z e f = (refl, cc)
-  all-passed ((n, true) ∷ checks) x z e f = let t : _≡_ {A = ℕ} 0 1 = cc in absurd (omega arith)
+  all-passed ((n, true) ∷ checks) x z e f = clash cc
   all-passed ((n, false) ∷ checks) x z e f = all-passed checks x z e f
 
   pub one-failed : (checks : List (ℕ × Bool)) (x : Answer A) (r : Refusal) → x ≡ first checks refused (done y) → x ≡ refused r → deny r ≡ first checks deny give
   unfolding first
-  one-failed [] x r e f = let z : _≡_ {A = ℕ} 0 1 = cc in absurd (omega arith)
+  one-failed [] x r e f = clash cc
   one-failed ((n, true) ∷ checks) x r e f = let g : refusal n ≡ r = cc in ap deny (sym g)
   one-failed ((n, false) ∷ checks) x r e f = one-failed checks x r e f
 
@@ -115,32 +119,32 @@ module _ {X A : Type 0} (deny : Refusal → X) (give : X) (y : A) where
 module _ {X A : Type 0} (rest : List (ℕ × Bool)) (deny : Refusal → X) (give : X) (x : Answer A) (y : A) where
   pub front-failed : (front : List (ℕ × Bool)) (r : Refusal) → x ≡ first front refused (done y) → x ≡ refused r → deny r ≡ first (front ++ rest) deny give
   unfolding first
-  front-failed [] r e f = let z : _≡_ {A = ℕ} 0 1 = cc in absurd (omega arith)
+  front-failed [] r e f = clash cc
   front-failed ((n, true) ∷ front) r e f = let g : refusal n ≡ r = cc in ap deny (sym g)
   front-failed ((n, false) ∷ front) r e f = front-failed front r e f
 
   pub front-passed : (front : List (ℕ × Bool)) (v : X) (z : A) → x ≡ first front refused (done y) → x ≡ done z → v ≡ first rest deny give → v ≡ first (front ++ rest) deny give
   unfolding first
   front-passed [] v z e f h = h
-  front-passed ((n, true) ∷ front) v z e f h = let t : _≡_ {A = ℕ} 0 1 = cc in absurd (omega arith)
+  front-passed ((n, true) ∷ front) v z e f h = clash cc
   front-passed ((n, false) ∷ front) v z e f h = front-passed front v z e f h
 
 -- where none is refused, no check of the list applies
 pub passed : (n : ℕ) (b : Bool) (checks : List (ℕ × Bool)) (x : Unit {0}) → first ((n, b) ∷ checks) refused (done x) ≡ done x
     → (b ≡ false) × (first checks refused (done x) ≡ done x)
 unfolding first
-passed n true checks x e = let y : _≡_ {A = ℕ} 0 1 = cc in absurd (omega arith)
+passed n true checks x e = clash cc
 passed n false checks x e = (refl, e)
 
 -- so it is where the list passes
 pub passes-done : (checks : List (ℕ × Bool)) → passes checks ≡ true → _≡_ {A = Answer (Unit {0})} (first checks refused (done tt)) (done tt)
 unfolding passes first
 passes-done [] e = refl
-passes-done ((n, true) ∷ checks) e = let z : _≡_ {A = ℕ} 0 1 = cc in absurd (omega arith)
+passes-done ((n, true) ∷ checks) e = clash cc
 passes-done ((n, false) ∷ checks) e = passes-done checks e
 
 pub true-false : true ≡ false → ⊥
-true-false e = let z : _≡_ {A = ℕ} 0 1 = cc in omega arith
+true-false e = clash cc
 
 pub passes-first : (n : ℕ) (b : Bool) (checks : List (ℕ × Bool)) → passes ((n, b) ∷ checks) ≡ true → (b ≡ false) × (passes checks ≡ true)
 unfolding passes first

@@ -1,5 +1,5 @@
 -- What a strip that passed the check is, for the proofs of calls that use its records. Assumes nothing.
-use Prim.Native.Nat.{ℕ, zero, suc, _+_, _-_, _*_, _≤_, _<_}
+use Prim.Native.Nat.{ℕ, zero, suc, _+_, _*_, _≤_, _<_}
 use mathlib.Core.Path.{_≡_, refl, sym, ap, _∙_}
 use mathlib.Core.List.{List, [], _∷_}
 use mathlib.Core.Bool.{Bool, true, false, not}
@@ -12,7 +12,7 @@ use Rattle.refusal.specs.declared.Refusal.{Refusal}
 use Rattle.refusal.specs.declared.Check.the-variants.{Passed}
 use Rattle.refusal.specs.declared.Outcome.{Outcome}
 use Rattle.refusal.specs.declared.Outcome.the-variants.{Done, Refused}
-use Rattle.refusal.proofs.First.{passed, found, front-failed, front-passed}
+use Rattle.refusal.proofs.First.{clash, passed, found, front-failed, front-passed}
 use Rattle.strip.specs.Strip.{version, keySize, recordBytes, sameForm, badFraming, spent, unknownVersion, wrongRecordBytes, badThird, badRecord, checkList, formOf, ownFormOf, wholeRecord, recordPart}
 use Rattle.strip.specs.Inner.{frontOf, restOf}
 use Rattle.strip.proofs.Laws.{either-false, third-at}
@@ -27,10 +27,10 @@ pub record Fit (s : List ℕ) (size : ℕ) : Type 0 where
 
 both-true : (a b : Bool) → both a b ≡ true → (a ≡ true) × (b ≡ true)
 both-true true b e = (refl, e)
-both-true false b e = let y : _≡_ {A = ℕ} 0 1 = cc in absurd (omega arith)
+both-true false b e = clash cc
 
 either-right : (a b : Bool) → either a b ≡ false → b ≡ false
-either-right true b e = let y : _≡_ {A = ℕ} 0 1 = cc in absurd (omega arith)
+either-right true b e = clash cc
 either-right false b e = e
 
 -- one of three, where not none
@@ -38,7 +38,7 @@ one-of : (a b c : Bool) {P : Type 0} → not (either a (either b (either c false
 one-of true b c e f g h = f refl
 one-of false true c e f g h = g refl
 one-of false false true e f g h = h refl
-one-of false false false e f g h = let y : _≡_ {A = ℕ} 0 1 = cc in absurd (omega arith)
+one-of false false false e f g h = clash cc
 
 bytes-of : (v k n key bytes : ℕ) → sameForm (v, (k, n)) (1, (key, bytes)) ≡ true → bytes ≡ 12 * key + 288 → n ≡ 12 * k + 288
 bytes-of v k n key bytes e h =
