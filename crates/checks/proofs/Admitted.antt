@@ -17,8 +17,7 @@ use Rattle.refusal.proofs.First.{passed-is, first-now, first-skip, first-done, 
 use Rattle.strip.specs.Strip.{ownChecks, ownFormOf}
 use Rattle.master.specs.declared.State.{State}
 use Rattle.master.specs.State.{stateIn, gone, neverSent, sentTooMuch, impossible, noState, waiting, usedUp, noRoom, noneHeld, isStandby}
-use Rattle.checks.specs.Checks.{roomsSize}
-use Rattle.checks.specs.Checks.{notLent, notLentWith, notLentOut, goAloneChecks}
+use Rattle.checks.specs.Checks.{roomsSize, notLent, notLentWith, notLentOut, goAloneChecks}
 use Rattle.checks.specs.Inner.{senderOf}
 
 -- ---- what a lent state and lent rooms are
@@ -44,17 +43,21 @@ lent-is st rooms e =
       counted = λ h. ltb-false 4294967295 (m .added + m .taken) (let u : isNot 4 (m .role) ≡ true = rw (ne-eqb (m .role) 4 h) refl in sym (rw u refl) ∙ s .1);
     }
 
+pub lent-with : (size : ℕ) (st : List ℕ) (rooms part : ℕ) → notLentWith size st rooms part ≡ false → Lent st rooms × (part ≡ size)
+unfolding notLentWith
+lent-with size st rooms part e = let n = neither (notLent st rooms) (isNot size part) e in (lent-is st rooms (n .0), passed-is size part Passed (sym (n .1)) refl)
+
 pub record LentOut (st : List ℕ) (rooms number strip : ℕ) : Type 0 where
   pub master : Lent st rooms
   pub four : number ≡ 4
   pub room : strip ≡ 676
 
 pub lent-out-is : (st : List ℕ) (rooms number strip : ℕ) → notLentOut st rooms number strip ≡ false → LentOut st rooms number strip
-unfolding notLentOut notLentWith
+unfolding notLentOut
 lent-out-is st rooms number strip e =
     let n = neither (notLentWith 4 st rooms number) (isNot 676 strip) e in
-    let o = neither (notLent st rooms) (isNot 4 number) (n .0) in
-    record { master = lent-is st rooms (o .0); four = passed-is 4 number Passed (sym (o .1)) refl; room = passed-is 676 strip Passed (sym (n .1)) refl }
+    let l = lent-with 4 st rooms number (n .0) in
+    record { master = l .0; four = l .1; room = passed-is 676 strip Passed (sym (n .1)) refl }
 
 -- ---- a strip, then whether there is room
 module _ (m : State) (s : List ℕ) (x : Outcome) (e : outcome x ≡ ownFormOf s) where

@@ -8,7 +8,7 @@ use mathlib.Core.Bool.{Bool, true, false, not}
 use lib.ListN.{length, take, drop, length-drop}
 use lib.Seq.{take-all}
 use lib.Dec.{eqb}
-use borrow.Author.Tests.{le-ltb, lt-ltb, eq-eqb, ne-eqb}
+use borrow.Author.Tests.{le-ltb, lt-ltb, leb-true, leb-false, eq-eqb, ne-eqb}
 use Rattle.refusal.specs.Refusal.{failed}
 use Rattle.refusal.specs.Answer.{outcome, passes}
 use Rattle.refusal.specs.declared.Refusal.{Refusal}
@@ -23,7 +23,7 @@ use Rattle.message.specs.declared.Message.{Message}
 use Rattle.message.specs.declared.Message.the-variants.{Adds, Takes, Acknowledges, Unreadable}
 use Rattle.message.proofs.Laws.{adds-long}
 use Rattle.master.specs.declared.State.{State}
-use Rattle.master.specs.State.{stateIn, sent}
+use Rattle.master.specs.State.{stateIn, sent, noneHeld}
 use Rattle.checks.specs.Checks.{sequence, isMessage, fits, notApplied}
 
 -- ---- an addition
@@ -45,14 +45,14 @@ module _ (m : State) (n : ℕ) (s : List ℕ) (x : Outcome) (e : outcome x ≡ o
     by-number y z h p q = rw (good-form, lt-ltb (m .added - m .taken) 64 (omega arith), p, q, add-one (m .added)) refl
 
 -- ---- a taking
-module _ (m : State) (n : ℕ) where
-  pub none-there : m .added ≤ m .taken → false ≡ fits m (Takes 0 n) []
-  unfolding fits
-  none-there h = rw (le-ltb (m .taken) (m .added) h) refl
+module _ (m : State) (n : ℕ) (k : Check) (e : failed k ≡ noneHeld m) where
+  pub none-there : k ≡ Failed → false ≡ fits m (Takes 0 n) []
+  unfolding fits noneHeld
+  none-there f = let h : m .added ≤ m .taken = leb-true (m .added) (m .taken) (sym e ∙ ap failed f) in rw (le-ltb (m .taken) (m .added) h) refl
 
-  pub by-lowest : (y z : ℕ) → m .taken < m .added → y ≡ n → z ≡ m .taken → eqb y (z + 1) ≡ fits m (Takes 0 n) []
-  unfolding fits
-  by-lowest y z h p q = rw (lt-ltb (m .taken) (m .added) h, p, q, add-one (m .taken)) refl
+  pub by-lowest : (y z : ℕ) → k ≡ Passed → y ≡ n → z ≡ m .taken → eqb y (z + 1) ≡ fits m (Takes 0 n) []
+  unfolding fits noneHeld
+  by-lowest y z f p q = let h : m .taken < m .added = leb-false (m .added) (m .taken) (sym e ∙ ap failed f) in rw (lt-ltb (m .taken) (m .added) h, p, q, add-one (m .taken)) refl
 
 -- ---- by what the message is
 pub whole-strip : (b : List ℕ) → take (length b - 12) (drop 12 b) ≡ drop 12 b

@@ -151,9 +151,9 @@ fn fits_adding(master: State, number: u32, strip: &[u8]) -> bool
 fn fits_taking(master: State, number: u32) -> bool
     ensures { λ r. ⌜ r ≡ fits master (sort.Takes 0 number) [] ⌝ }
 {
-    if master.added <= master.taken {
+    let Check::Passed = master::check_held(master) else {
         return false;
-    }
+    };
     master::wide(number) == master::wide(master.taken) + 1
 }
 

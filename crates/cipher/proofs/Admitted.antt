@@ -1,7 +1,7 @@
 -- What a block call knows of its parts when every check has passed. Assumes nothing.
 use Prim.Native.Nat.{ℕ, _-_, _*_, _/_, _≤_, _<_}
 use native.Mathlib.Omega.{arith}
-use mathlib.Core.Path.{_≡_, refl, sym, ap, _∙_}
+use mathlib.Core.Path.{_≡_, refl, sym}
 use mathlib.Core.List.{List, [], _∷_}
 use Rattle.refusal.specs.declared.Check.{Check}
 use Rattle.refusal.specs.declared.Check.the-variants.{Passed}
@@ -9,7 +9,7 @@ use Rattle.refusal.specs.Refusal.{failed}
 use Rattle.refusal.specs.declared.Outcome.{Outcome}
 use Rattle.refusal.specs.declared.Outcome.the-variants.{Done}
 use Rattle.refusal.specs.Answer.{done, refused, first, either, isNot, noneOf, outcome}
-use Rattle.refusal.proofs.First.{found, passed, passed-is, neither}
+use Rattle.refusal.proofs.First.{found, passes-first, call-passes, passed-is, neither}
 use Rattle.strip.specs.Strip.{blockChecks}
 use Rattle.strip.proofs.Good.{Fit, good}
 use Rattle.cipher.specs.Block.{keySizeIn, checks}
@@ -53,12 +53,12 @@ pub record Admitted (d m w : ℕ) (s : List ℕ) : Type 0 where
 
 pub admitted : (d m w : ℕ) (s : List ℕ) (v : Outcome) → outcome v ≡ first (checks d m w s) refused (done tt) → v ≡ Done → Admitted d m w s
 admitted d m w s v e f =
-    let p6 = passed 6 (either (isNot 16 d) (isNot 16 m)) _ tt (sym e ∙ ap outcome f) in
-    let p5 = passed 5 (noneOf (176 ∷ 208 ∷ 240 ∷ []) w) (blockChecks s (keySizeIn w)) tt (p6 .1) in
+    let p6 = passes-first 6 (either (isNot 16 d) (isNot 16 m)) _ (call-passes (checks d m w s) v e f) in
+    let p5 = passes-first 5 (noneOf (176 ∷ 208 ∷ 240 ∷ []) w) (blockChecks s (keySizeIn w)) (p6 .1) in
     let both = neither (isNot 16 d) (isNot 16 m) (p6 .0) in
     record {
       block = passed-is 16 d Passed (sym (both .0)) refl;
       mask = passed-is 16 m Passed (sym (both .1)) refl;
       keys = sizes w Passed (sym (p5 .0)) refl;
-      strip = good s (keySizeIn w) Done (sym (p5 .1)) refl;
+      strip = good s (keySizeIn w) (p5 .1);
     }

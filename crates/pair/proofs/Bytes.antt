@@ -11,7 +11,7 @@ use lib.Dec.{ltb}
 use borrow.Author.Tests.{le-ltb, eq-eqb, ne-eqb}
 use Rattle.refusal.specs.Answer.{isNot, passes}
 use Rattle.refusal.specs.declared.Check.the-variants.{Passed}
-use Rattle.refusal.proofs.First.{passed-is, neither, passes-done, passes-first}
+use Rattle.refusal.proofs.First.{passed-is, neither, passes-first}
 use Rattle.strip.specs.Strip.{lengthField, badFraming, ownChecks}
 use Rattle.strip.proofs.Good.{unspoilt, own-short}
 use Rattle.message.specs.Message.{numberBytes, numberAt, frontBytes, addition, taking, acknowledgement, misframed, isOf, readOf}
@@ -134,7 +134,7 @@ own-good s e =
     let p7 = passes-first 7 (badFraming s) _ e in
     let long : 4 ≤ length s = unspoilt s (p7 .0) in
     let field : lengthField s ≡ length s - 2 = passed-is (length s - 2) (lengthField s) Passed (sym (neither (ltb (length s) 4) _ (p7 .0) .1)) refl in
-    record { long = long; short = own-short s (passes-done (ownChecks s) e); framed = omega arith }
+    record { long = long; short = own-short s e; framed = omega arith }
 
 -- and it is read back from its room
 pub strip-back : (s : List ℕ) → Good s → stripIn (padded 676 s) ≡ s

@@ -5,7 +5,7 @@ use mathlib.Core.List.{List}
 use mathlib.Core.Bool.{Bool, true, false}
 use lib.ListN.{length, take, drop}
 use Rattle.refusal.specs.Answer.{both, passes}
-use Rattle.refusal.proofs.First.{passes-done, true-false}
+use Rattle.refusal.proofs.First.{true-false}
 use Rattle.strip.specs.Strip.{ownChecks}
 use Rattle.strip.proofs.Good.{own-short}
 use Rattle.message.specs.declared.Message.{Message}
@@ -27,7 +27,7 @@ module _ (m : State) (x : Message) (b : List ℕ) where
   unfolding fits
   fits-room k n e f =
       let g : fits m (Adds k n) (drop 12 b) ≡ true = subst (λ (y : Message). fits m y (drop 12 b) ≡ true) f e in
-      rw (whole-strip b) (own-short (drop 12 b) (passes-done (ownChecks (drop 12 b)) (both-first (passes (ownChecks (drop 12 b))) _ g)))
+      rw (whole-strip b) (own-short (drop 12 b) (both-first (passes (ownChecks (drop 12 b))) _ g))
 
   pub applied-adds : (k n : ℕ) (rooms : List ℕ) (new : List ℕ × List ℕ) → x ≡ Adds k n → new ≡ added m 3 rooms (take (length b - 12) (drop 12 b)) → new ≡ applied m x (drop 12 b) rooms
   unfolding applied

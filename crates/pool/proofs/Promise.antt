@@ -9,7 +9,7 @@ use lib.Dec.{eqb, ltb, leb}
 use borrow.Author.Tests.{leb-false, ltb-false, le-leb, lt-leb, eq-eqb, ne-eqb, not-false}
 use Rattle.refusal.specs.Answer.{choose, either, isNot, passes}
 use Rattle.refusal.specs.declared.Check.the-variants.{Passed}
-use Rattle.refusal.proofs.First.{neither, passed-is, passes-done, passes-first, passes-both}
+use Rattle.refusal.proofs.First.{neither, passed-is, passes-first, passes-both}
 use Rattle.strip.specs.Strip.{ownChecks}
 use Rattle.strip.proofs.Good.{own-short}
 use Rattle.message.specs.Message.{numberBytes, frontBytes, addition, acknowledgement, readOf}
@@ -20,12 +20,7 @@ use Rattle.pool.specs.Rooms.{roomAt, padded, filled, stripIn, handing, h
 use Rattle.checks.specs.Checks.{roomsSize, notLent, notLentWith, notLentOut, addChecks, takeChecks, outstandingChecks, isAcknowledgement, acknowledgeChecks, fits, isMessage, sequence, notApplied, applyChecks, goAloneChecks}
 use Rattle.pool.specs.Calls.{oneMore, oneTaken, withRole, added, taken, messageOf, settle, acknowledged, applied, answered}
 use Rattle.pool.proofs.Places.{taking-is, none-is}
-use Rattle.checks.proofs.Admitted.{Lent, lent-is, LentOut, lent-out-is}
-
--- what is lent with a further part
-lent-with : (size : ℕ) (st : List ℕ) (rooms part : ℕ) → notLentWith size st rooms part ≡ false → Lent st rooms × (part ≡ size)
-unfolding notLentWith
-lent-with size st rooms part e = let n = neither (notLent st rooms) (isNot size part) e in (lent-is st rooms (n .0), passed-is size part Passed (sym (n .1)) refl)
+use Rattle.checks.proofs.Admitted.{Lent, lent-is, lent-with, LentOut, lent-out-is}
 
 -- ---- adding
 pub added-so : (m : State) (role : ℕ) (rooms s st′ rooms′ : List ℕ) → st′ ≡ stateBytes (record { role = role; added = m .added + 1; taken = m .taken }) → rooms′ ≡ filled rooms (m .added) s → (st′, rooms′) ≡ added m role rooms s
@@ -43,7 +38,7 @@ module _ (st rooms s : List ℕ) (p : passes (addChecks st (length rooms) s) ≡
       let room = neither (leb 64 (stateIn st .added - stateIn st .taken)) (leb 4294967295 (stateIn st .added)) (passes-first 14 (noRoom (stateIn st)) [] (own .1) .0) in
       let lent = lent-is st (length rooms) (neither (notLent st (length rooms)) (isStandby (stateIn st)) (p6 .0) .0) in
       let free : stateIn st .added < 4294967295 = leb-false 4294967295 (stateIn st .added) (room .1) in
-      ((lent .nine, lent .sized), (own-short s (passes-done (ownChecks s) (own .0)), subst (λ (m : State). m .added < 4294967295) (sym h) free))
+      ((lent .nine, lent .sized), (own-short s (own .0), subst (λ (m : State). m .added < 4294967295) (sym h) free))
 
   pub add-done : (role : ℕ) (new : List ℕ × List ℕ) → role ≡ sending m 1 → new ≡ added m role rooms s → new ≡ added (stateIn st) (sending (stateIn st) 1) rooms s
   add-done role new q r = r ∙ rw (q, h) refl

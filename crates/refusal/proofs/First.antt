@@ -129,22 +129,13 @@ module _ {X A : Type 0} (rest : List (ℕ × Bool)) (deny : Refusal → X) (give
   front-passed ((n, true) ∷ front) v z e f h = clash cc
   front-passed ((n, false) ∷ front) v z e f h = front-passed front v z e f h
 
--- where none is refused, no check of the list applies
-pub passed : (n : ℕ) (b : Bool) (checks : List (ℕ × Bool)) (x : Unit {0}) → first ((n, b) ∷ checks) refused (done x) ≡ done x
-    → (b ≡ false) × (first checks refused (done x) ≡ done x)
-unfolding first
-passed n true checks x e = clash cc
-passed n false checks x e = (refl, e)
-
--- so it is where the list passes
-pub passes-done : (checks : List (ℕ × Bool)) → passes checks ≡ true → _≡_ {A = Answer (Unit {0})} (first checks refused (done tt)) (done tt)
-unfolding passes first
-passes-done [] e = refl
-passes-done ((n, true) ∷ checks) e = clash cc
-passes-done ((n, false) ∷ checks) e = passes-done checks e
-
 pub true-false : true ≡ false → ⊥
 true-false e = clash cc
+
+-- where none is refused, no check of the list applies
+pub call-passes : (checks : List (ℕ × Bool)) (v : Outcome) → outcome v ≡ first checks refused (done tt) → v ≡ Done → passes checks ≡ true
+unfolding passes
+call-passes checks v e f = sym (all-passed (λ r. false) true tt checks (outcome v) tt e (ap outcome f) .0)
 
 pub passes-first : (n : ℕ) (b : Bool) (checks : List (ℕ × Bool)) → passes ((n, b) ∷ checks) ≡ true → (b ≡ false) × (passes checks ≡ true)
 unfolding passes first
@@ -177,7 +168,3 @@ module _ {X : Type 0} (checks : List (ℕ × Bool)) (lent new : X) (v : Outcome)
   module _ (f : v ≡ Done) where
     pub call-done : (x : X) → x ≡ new → _≡_ {A = Answer (Unit {0}) × X} (outcome v, x) (first checks (λ r. (refused r, lent)) (done tt, new))
     call-done x h = ap (λ (y : Answer (Unit {0})). (y, x)) (ap outcome f) ∙ ap (λ (y : X). (done tt, y)) h ∙ all-passed (λ r. (refused r, lent)) (done tt, new) tt checks (outcome v) tt e (ap outcome f) .0
-
-pub call-passes : (checks : List (ℕ × Bool)) (v : Outcome) → outcome v ≡ first checks refused (done tt) → v ≡ Done → passes checks ≡ true
-unfolding passes
-call-passes checks v e f = sym (all-passed (λ r. false) true tt checks (outcome v) tt e (ap outcome f) .0)

@@ -7,13 +7,13 @@ use native.Mathlib.Omega.{arith}
 use lib.ListN.{length, getD, take, drop}
 use lib.Dec.{eqb}
 use borrow.Author.Tests.{lt-ltb, le-ltb, ltb-false, eqb-true, not-false}
-use Rattle.refusal.specs.Answer.{Answer, done, refused, first, above, either, both, isNot, noneOf, outcome}
+use Rattle.refusal.specs.Answer.{Answer, done, refused, first, above, either, both, outcome, passes}
 use Rattle.refusal.specs.declared.Refusal.{Refusal}
 use Rattle.refusal.specs.declared.Check.the-variants.{Passed}
 use Rattle.refusal.specs.declared.Outcome.{Outcome}
 use Rattle.refusal.specs.declared.Outcome.the-variants.{Done, Refused}
-use Rattle.refusal.proofs.First.{clash, passed, found, front-failed, front-passed}
-use Rattle.strip.specs.Strip.{version, keySize, recordBytes, sameForm, badFraming, spent, unknownVersion, wrongRecordBytes, badThird, badRecord, checkList, formOf, ownFormOf, wholeRecord, recordPart}
+use Rattle.refusal.proofs.First.{clash, passes-first, call-passes, found, front-failed, front-passed}
+use Rattle.strip.specs.Strip.{version, keySize, recordBytes, sameForm, badFraming, spent, unknownVersion, wrongRecordBytes, badThird, badRecord, checkList, blockChecks, ownChecks, wholeRecord, recordPart}
 use Rattle.strip.specs.Inner.{frontOf, restOf}
 use Rattle.strip.proofs.Laws.{either-false, third-at}
 
@@ -88,11 +88,12 @@ past s i h = rw (lt-ltb (length s) (4 + 3 * i + 3) h) (either-way ((7, badFramin
 
 -- the check in its two parts: what the first found decides, or the rest goes on from four bytes that are there
 module _ (s : List ℕ) (f : Outcome) (e : outcome f ≡ frontOf s) where
-  pub front-long : f ≡ Done → 4 ≤ length s
-  front-long g = unspoilt s (passed 7 (badFraming s) _ tt (sym e ∙ ap outcome g) .0)
-
   front : List (ℕ × Bool)
   front = (7, badFraming s) ∷ (11, spent s) ∷ (8, unknownVersion s) ∷ []
+
+  pub front-long : f ≡ Done → 4 ≤ length s
+  unfolding front
+  front-long g = unspoilt s (passes-first 7 (badFraming s) _ (call-passes front f e g) .0)
 
   rest : Bool → List (ℕ × Bool)
   rest sized = (9, sized) ∷ (12, wrongRecordBytes s) ∷ (10, badRecord s) ∷ []
@@ -105,30 +106,40 @@ module _ (s : List ℕ) (f : Outcome) (e : outcome f ≡ frontOf s) where
   unfolding front rest
   onward sized t x g h i = front-passed (rest sized) refused (done tt) (outcome f) tt front x tt e (ap outcome g) (i ∙ ap (restOf s) h)
 
--- a strip that passed by itself is no longer than those of 32-byte keys
-pub own-short : (s : List ℕ) → ownFormOf s ≡ done tt → length s ≤ 676
-own-short s e =
-    let p7 = passed 7 (badFraming s) _ tt e in
-    let p11 = passed 11 (spent s) _ tt (p7 .1) in
-    let p8 = passed 8 (unknownVersion s) _ tt (p11 .1) in
-    let p9 = passed 9 (noneOf (16 ∷ 24 ∷ 32 ∷ []) (keySize s)) _ tt (p8 .1) in
-    let p12 = passed 12 (wrongRecordBytes s) _ tt (p9 .1) in
-    let b : recordBytes s ≡ 12 * keySize s + 288 = right-bytes s (p12 .0) in
-    found 16 24 32 (keySize s) Passed (sym (p9 .0)) refl (λ k. omega arith) (λ k. omega arith) (λ k. omega arith)
+-- what no refusal of the list leaves
+record Unrefused (s : List ℕ) (sized : Bool) : Type 0 where
+  framed : badFraming s ≡ false
+  unspent : spent s ≡ false
+  known : unknownVersion s ≡ false
+  right-size : sized ≡ false
+  counted : wrongRecordBytes s ≡ false
+  thirds-small : badRecord s ≡ false
 
-pub good : (s : List ℕ) (size : ℕ) (f : Outcome) → outcome f ≡ formOf s size → f ≡ Done → Fit s size
-good s size f e g =
-    let p7 = passed 7 (badFraming s) _ tt (sym e ∙ ap outcome g) in
-    let p11 = passed 11 (spent s) _ tt (p7 .1) in
-    let p8 = passed 8 (unknownVersion s) _ tt (p11 .1) in
-    let p9 = passed 9 (isNot size (keySize s)) _ tt (p8 .1) in
-    let p12 = passed 12 (wrongRecordBytes s) _ tt (p9 .1) in
-    let p10 = passed 10 (badRecord s) _ tt (p12 .1) in
-    let k : keySize s ≡ size = eqb-true (keySize s) size (not-false _ (p9 .0)) in
+unrefused : (s : List ℕ) (sized : Bool) → passes (checkList s sized) ≡ true → Unrefused s sized
+unrefused s sized e =
+    let p7 = passes-first 7 (badFraming s) _ e in
+    let p11 = passes-first 11 (spent s) _ (p7 .1) in
+    let p8 = passes-first 8 (unknownVersion s) _ (p11 .1) in
+    let p9 = passes-first 9 sized _ (p8 .1) in
+    let p12 = passes-first 12 (wrongRecordBytes s) _ (p9 .1) in
+    let p10 = passes-first 10 (badRecord s) _ (p12 .1) in
+    record { framed = p7 .0; unspent = p11 .0; known = p8 .0; right-size = p9 .0; counted = p12 .0; thirds-small = p10 .0 }
+
+-- a strip that passed by itself is no longer than those of 32-byte keys
+pub own-short : (s : List ℕ) → passes (ownChecks s) ≡ true → length s ≤ 676
+own-short s e =
+    let u = unrefused s _ e in
+    let b : recordBytes s ≡ 12 * keySize s + 288 = right-bytes s (u .counted) in
+    found 16 24 32 (keySize s) Passed (sym (u .right-size)) refl (λ k. omega arith) (λ k. omega arith) (λ k. omega arith)
+
+pub good : (s : List ℕ) (size : ℕ) → passes (blockChecks s size) ≡ true → Fit s size
+good s size e =
+    let u = unrefused s _ e in
+    let k : keySize s ≡ size = eqb-true (keySize s) size (not-false _ (u .right-size)) in
     record {
-      long = unspoilt s (p7 .0);
+      long = unspoilt s (u .framed);
       key = k;
-      bytes = rw (← k) (right-bytes s (p12 .0));
-      there = λ i h. handed-out s i (p7 .0) (p11 .0) (p8 .0) h;
-      small = λ i h. thirds s (p10 .0) i h;
+      bytes = rw (← k) (right-bytes s (u .counted));
+      there = λ i h. handed-out s i (u .framed) (u .unspent) (u .known) h;
+      small = λ i h. thirds s (u .thirds-small) i h;
     }
