@@ -15,8 +15,9 @@ use Rattle.refusal.specs.declared.Outcome.{Outcome}
 use Rattle.refusal.specs.declared.Outcome.the-variants.{Done, Refused}
 use Rattle.refusal.proofs.First.{passed-is, first-now, first-skip, first-done, either-first, either-second, neither, front-failed, front-passed}
 use Rattle.strip.specs.Strip.{ownChecks, ownFormOf}
-use Rattle.master.specs.declared.State.{State}
-use Rattle.master.specs.State.{stateIn, gone, neverSent, sentTooMuch, impossible, noState, waiting, usedUp, noRoom, noneHeld, isStandby}
+use Rattle.state.specs.declared.State.{State}
+use Rattle.state.specs.State.{stateIn, gone, neverSent, sentTooMuch, impossible, noState}
+use Rattle.master.specs.Master.{waiting, usedUp, noRoom, noneHeld, isStandby}
 use Rattle.checks.specs.Checks.{roomsSize, notLent, notLentWith, notLentOut, goAloneChecks}
 use Rattle.checks.specs.Inner.{senderOf}
 

@@ -22,8 +22,9 @@ use Rattle.message.specs.Message.{readOf}
 use Rattle.message.specs.declared.Message.{Message}
 use Rattle.message.specs.declared.Message.the-variants.{Adds, Takes, Acknowledges, Unreadable}
 use Rattle.message.proofs.Laws.{adds-long}
-use Rattle.master.specs.declared.State.{State}
-use Rattle.master.specs.State.{stateIn, sent, noneHeld}
+use Rattle.state.specs.declared.State.{State}
+use Rattle.state.specs.State.{stateIn, sent}
+use Rattle.master.specs.Master.{noneHeld}
 use Rattle.checks.specs.Checks.{sequence, isMessage, fits, notApplied}
 
 -- ---- an addition

@@ -9,8 +9,9 @@ use Rattle.strip.specs.Strip.{ownChecks}
 use Rattle.message.specs.Message.{readOf}
 use Rattle.message.specs.declared.Message.{Message}
 use Rattle.message.specs.declared.Message.the-variants.{Adds, Takes, Acknowledges, Unreadable}
-use Rattle.master.specs.declared.State.{State}
-use Rattle.master.specs.State.{standby, stateIn, sent, noState, waiting, usedUp, noRoom, noneHeld, isStandby}
+use Rattle.state.specs.declared.State.{State}
+use Rattle.state.specs.State.{standby, stateIn, sent, noState}
+use Rattle.master.specs.Master.{waiting, usedUp, noRoom, noneHeld, isStandby}
 
 -- 64 rooms of 676 bytes
 abbrev pub roomsSize : ℕ

@@ -2,8 +2,8 @@
 use mathlib.Core.List.{[], _∷_}
 use mathlib.Core.Bool.{Bool}
 use Rattle.refusal.specs.Answer.{Answer, done, refused, first, either}
-use Rattle.master.specs.declared.State.{State}
-use Rattle.master.specs.State.{waiting, usedUp, isStandby}
+use Rattle.state.specs.declared.State.{State}
+use Rattle.master.specs.Master.{waiting, usedUp, isStandby}
 
 -- what adding and taking refuse alike
 abbrev pub senderOf : Bool → State → Answer (Unit {0})

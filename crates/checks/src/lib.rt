@@ -8,19 +8,19 @@ ghost use Rattle.refusal.specs.Answer.{done, refused, first, outcome};
 ghost use Rattle.strip.specs.Strip.{ownChecks};
 ghost use Rattle.message.specs.Message.{readOf};
 ghost use Rattle.message.specs.declared.Message.the-variants as sort;
-ghost use Rattle.master.specs.State.{noRoom};
+ghost use Rattle.master.specs.Master.{noRoom};
 ghost use Rattle.checks.specs.Checks.{notLent, notLentWith, notLentOut, addChecks, takeChecks, outstandingChecks, isAcknowledgement, acknowledgeChecks, fits, isMessage, sequence, notApplied, applyChecks, goAloneChecks};
 ghost use Rattle.checks.specs.Inner.{senderOf};
-use master::State;
 use message::Message;
 use refusal::Check;
 use refusal::Outcome;
+use state::State;
 
 // 6
 fn check_lent(state: &[u8], rooms: usize) -> Check
     ensures { λ c. ⌜ failed c ≡ notLent (now (state .entry)) rooms ⌝ }
 {
-    let Check::Passed = master::check(state) else {
+    let Check::Passed = state::check(state) else {
         return Check::Failed;
     };
     refusal::check_length(rooms, 43264)
@@ -76,7 +76,7 @@ fn check_sender(lent: Check, master: State) -> Outcome
 pub fn add(state: &[u8], rooms: usize, strip: &[u8]) -> Outcome
     ensures { λ r. ⌜ outcome r ≡ first (addChecks (now (state .entry)) rooms (now (strip .entry))) refused (done tt) ⌝ }
 {
-    let master = master::read(state);
+    let master = state::read(state);
     let sender = check_sender(check_lent(state, rooms), master);
     let Outcome::Done = sender else {
         return sender;
@@ -87,7 +87,7 @@ pub fn add(state: &[u8], rooms: usize, strip: &[u8]) -> Outcome
 pub fn take(state: &[u8], rooms: usize, number: usize, strip: usize) -> Outcome
     ensures { λ r. ⌜ outcome r ≡ first (takeChecks (now (state .entry)) rooms number strip) refused (done tt) ⌝ }
 {
-    let master = master::read(state);
+    let master = state::read(state);
     let sender = check_sender(check_lent_out(state, rooms, number, strip), master);
     let Outcome::Done = sender else {
         return sender;
@@ -142,10 +142,10 @@ fn fits_adding(master: State, number: u32, strip: &[u8]) -> bool
     let Outcome::Done = strip::check_own(strip) else {
         return false;
     };
-    if master::wide(master.taken) + 64 <= master::wide(master.added) {
+    if state::wide(master.taken) + 64 <= state::wide(master.added) {
         return false;
     }
-    master::wide(number) == master::wide(master.added) + 1
+    state::wide(number) == state::wide(master.added) + 1
 }
 
 fn fits_taking(master: State, number: u32) -> bool
@@ -154,7 +154,7 @@ fn fits_taking(master: State, number: u32) -> bool
     let Check::Passed = master::check_held(master) else {
         return false;
     };
-    master::wide(number) == master::wide(master.taken) + 1
+    state::wide(number) == state::wide(master.taken) + 1
 }
 
 // Whether what a message asks for can be done next.
@@ -203,8 +203,8 @@ fn check_message(master: State, asked: Message, message: &[u8]) -> Check
     let Check::Passed = check_kind(asked) else {
         return Check::Failed;
     };
-    let next = master::sent(master) + 1;
-    let number = master::wide(sequence_of(asked));
+    let next = state::sent(master) + 1;
+    let number = state::wide(sequence_of(asked));
     if next < number {
         return Check::Failed;
     }
@@ -223,7 +223,7 @@ pub fn apply(state: &[u8], rooms: usize, message: &[u8], acknowledgement: usize)
     let Check::Passed = check_lent_with(8, state, rooms, acknowledgement) else {
         return refusal::buffer(6);
     };
-    let Check::Passed = check_message(master::read(state), message::read(message), message) else {
+    let Check::Passed = check_message(state::read(state), message::read(message), message) else {
         return refusal::message(16);
     };
     Outcome::Done
@@ -232,10 +232,10 @@ pub fn apply(state: &[u8], rooms: usize, message: &[u8], acknowledgement: usize)
 pub fn go_alone(state: &[u8]) -> Outcome
     ensures { λ r. ⌜ outcome r ≡ first (goAloneChecks (now (state .entry))) refused (done tt) ⌝ }
 {
-    let Check::Passed = master::check(state) else {
+    let Check::Passed = state::check(state) else {
         return refusal::buffer(6);
     };
-    if master::read(state).role < 3 {
+    if state::read(state).role < 3 {
         return refusal::buffer(6); // an active master does not
     }
     Outcome::Done

@@ -19,9 +19,11 @@ use Rattle.message.specs.declared.Message.{Message}
 use Rattle.message.specs.declared.Message.the-variants.{Adds, Takes, Acknowledges, Unreadable}
 use Rattle.mirror.specs.Mirror as mirror
 use Rattle.mirror.specs.Mirror.{Said, Checks}
-use Rattle.master.specs.declared.State.{State}
-use Rattle.master.specs.State as pool
-use Rattle.master.specs.State.{most, stateIn, stateBytes, sent, gone, usedUp, sending, counts}
+use Rattle.state.specs.declared.State.{State}
+use Rattle.state.specs.State as roles
+use Rattle.master.specs.Master as master
+use Rattle.state.specs.State.{most, stateIn, stateBytes, sent, gone}
+use Rattle.master.specs.Master.{usedUp, sending, counts}
 use Rattle.pool.specs.Rooms.{roomAt, padded, filled, cleared, stripIn, handing, handingNone}
 use Rattle.checks.specs.Checks.{addChecks, takeChecks, isAcknowledgement}
 use Rattle.pool.specs.Calls.{oneMore, oneTaken, withRole, addOf, takeOf, acknowledgeOf, settle, messageOf, outstandingOf}
@@ -39,9 +41,9 @@ abbrev pub Active : Cabinet → Type 0
 Active c = Kept 0 2 c
 
 -- ---- 23 and 24
-same-waiting : (m : State) (rooms : List ℕ) → pool.waiting m ≡ mirror.waiting (outIn m rooms)
-unfolding pool.waiting outIn
-same-waiting m rooms = go (eqb (m .role) pool.adding) (eqb (m .role) pool.taking) where
+same-waiting : (m : State) (rooms : List ℕ) → master.waiting m ≡ mirror.waiting (outIn m rooms)
+unfolding master.waiting outIn
+same-waiting m rooms = go (eqb (m .role) roles.adding) (eqb (m .role) roles.taking) where
   go : (a b : Bool) → either a b ≡ mirror.waiting (choose a (mirror.adding (m .added, stripIn (roomAt rooms (m .added - 1)))) (choose b (mirror.taking (m .taken, stripIn (roomAt rooms (m .taken - 1)))) mirror.nothing))
   go true b = refl
   go false true = refl
@@ -49,14 +51,14 @@ same-waiting m rooms = go (eqb (m .role) pool.adding) (eqb (m .role) pool.taking
 
 same-used : (m : State) → m .role ≤ 2 → usedUp m ≡ leb mirror.most (sent m)
 unfolding usedUp mirror.most
-same-used m h = rw (ne-eqb (m .role) pool.alone (λ e. omega arith)) refl
+same-used m h = rw (ne-eqb (m .role) roles.alone (λ e. omega arith)) refl
 
 -- with nothing outstanding
-idle : (m : State) → m .role ≤ 2 → pool.waiting m ≡ false → m .role ≡ pool.active
-unfolding pool.waiting
+idle : (m : State) → m .role ≤ 2 → master.waiting m ≡ false → m .role ≡ roles.active
+unfolding master.waiting
 idle m h e =
-    let n = neither (eqb (m .role) pool.adding) _ e in
-    omega (arith, eqb-false (m .role) pool.adding (n .0), eqb-false (m .role) pool.taking (n .1))
+    let n = neither (eqb (m .role) roles.adding) _ e in
+    omega (arith, eqb-false (m .role) roles.adding (n .0), eqb-false (m .role) roles.taking (n .1))
 
 active-is : {p p′ : mirror.Pool} {n n′ : ℕ} {o o′ : mirror.Out} → p ≡ p′ → n ≡ n′ → o ≡ o′ → _≡_ {A = mirror.Active} (record { pool = p; sent = n; out = o }) (record { pool = p′; sent = n′; out = o′ })
 active-is e f g = cc
@@ -66,7 +68,7 @@ unfolding stripIn roomAt
 strip-short rooms n = simp length-take (omega arith)
 
 -- what is sent is outstanding
-sends-it : (m : State) (kind : ℕ) → m .role ≡ pool.active → sending m kind ≡ kind
+sends-it : (m : State) (kind : ℕ) → m .role ≡ roles.active → sending m kind ≡ kind
 unfolding sending
 sends-it m kind e = rw e refl
 
@@ -81,17 +83,17 @@ module _ (c : Cabinet) (v : Active c) where
   waits rest = (23, mirror.waiting (a .out)) ∷ (24, leb mirror.most (a .sent)) ∷ rest
 
   add-checks : (s : List ℕ) → addChecks (c .state) (length (c .rooms)) s ≡ (6, false) ∷ waits (ownChecks s ++ ((14, mirror.noRoom (a .pool)) ∷ []))
-  unfolding activeIn pool.isStandby pool.waiting usedUp Rattle.strip.specs.Strip.badFraming Rattle.strip.specs.Strip.spent Rattle.strip.specs.Strip.unknownVersion Rattle.strip.specs.Strip.wrongRecordBytes Rattle.strip.specs.Strip.badThird pool.noRoom outIn mirror.most mirror.noRoom
+  unfolding activeIn master.isStandby master.waiting usedUp Rattle.strip.specs.Strip.badFraming Rattle.strip.specs.Strip.spent Rattle.strip.specs.Strip.unknownVersion Rattle.strip.specs.Strip.wrongRecordBytes Rattle.strip.specs.Strip.badThird master.noRoom outIn mirror.most mirror.noRoom
   add-checks s =
-      rw (lent v (omega arith), ne-eqb (m .role) pool.standby (λ e. omega (arith, v .sound .greatest)), same-waiting m (c .rooms), same-used m (v .sound .greatest), same-room m (c .rooms)) refl
+      rw (lent v (omega arith), ne-eqb (m .role) roles.standby (λ e. omega (arith, v .sound .greatest)), same-waiting m (c .rooms), same-used m (v .sound .greatest), same-room m (c .rooms)) refl
 
   take-checks : takeChecks (c .state) (length (c .rooms)) (length {A = ℕ} (replicate 4 0)) (length {A = ℕ} (replicate 676 0)) ≡ (6, false) ∷ waits ((15, mirror.noneHeld (a .pool .held)) ∷ [])
-  unfolding activeIn pool.isStandby pool.waiting usedUp pool.noneHeld outIn mirror.most poolIn
+  unfolding activeIn master.isStandby master.waiting usedUp master.noneHeld outIn mirror.most poolIn
   take-checks =
-      rw (lent-out v (omega arith), ne-eqb (m .role) pool.standby (λ e. omega (arith, v .sound .greatest)), same-waiting m (c .rooms), same-used m (v .sound .greatest), same-none m (c .rooms)) refl
+      rw (lent-out v (omega arith), ne-eqb (m .role) roles.standby (λ e. omega (arith, v .sound .greatest)), same-waiting m (c .rooms), same-used m (v .sound .greatest), same-none m (c .rooms)) refl
 
   -- what the checks let through is not waiting and not used up
-  let-through : (rest : Checks) → passes (waits rest) ≡ true → (m .role ≡ pool.active) × (m .added + m .taken < most) × (passes rest ≡ true)
+  let-through : (rest : Checks) → passes (waits rest) ≡ true → (m .role ≡ roles.active) × (m .added + m .taken < most) × (passes rest ≡ true)
   unfolding activeIn mirror.most
   let-through rest e =
       let p23 = passes-first 23 (mirror.waiting (a .out)) _ e in
@@ -104,7 +106,7 @@ module _ (c : Cabinet) (v : Active c) where
   add-follows s =
       lent-follows (λ x. (afterAdd x .0, activeOf (afterAdd x .1))) (λ x. Active (afterAdd x .1)) _ (λ r. (mirror.refused r, a)) _ _ (λ r. (refl, v)) _ _ (add-checks s) new where
         new : passes (waits (ownChecks s ++ ((14, mirror.noRoom (a .pool)) ∷ []))) ≡ true
-            → let c′ : Cabinet = record { state = stateBytes (oneMore m (sending m pool.adding)); rooms = filled (c .rooms) (m .added) s } in
+            → let c′ : Cabinet = record { state = stateBytes (oneMore m (sending m roles.adding)); rooms = filled (c .rooms) (m .added) s } in
             (_≡_ {A = Said × mirror.Active} (mirror.done, activeOf c′) (mirror.done, record { pool = mirror.put s (a .pool); sent = suc (a .sent); out = mirror.adding (suc (a .pool .added), s) })) × Active c′
         new e =
             let t = let-through _ e in
@@ -113,13 +115,13 @@ module _ (c : Cabinet) (v : Active c) where
             let free = room-left m (c .rooms) (same-room m (c .rooms) ∙ passes-first 14 (mirror.noRoom (a .pool)) [] (p .1) .0) in
             let f : Filled (m .taken) (m .added) (c .rooms) = rw (gone-is m (λ x. omega arith)) at (v .sound .filled) in
             let space : m .added < m .taken + 64 = omega (arith, v .sound .counted) in
-            let u : Sound 0 2 (oneMore m pool.adding) (filled (c .rooms) (m .added) s) = more-sound m f 0 2 pool.adding (omega arith) (omega arith) (λ x. omega arith) s (g .short) (free .0) (free .1) (λ _. t .1) in
+            let u : Sound 0 2 (oneMore m roles.adding) (filled (c .rooms) (m .added) s) = more-sound m f 0 2 roles.adding (omega arith) (omega arith) (λ x. omega arith) s (g .short) (free .0) (free .1) (λ _. t .1) in
             let back : m .added + 1 - 1 ≡ m .added = omega arith in
-            let same : activeIn (oneMore m pool.adding) (filled (c .rooms) (m .added) s) ≡ record { pool = mirror.put s (a .pool); sent = suc (a .sent); out = mirror.adding (suc (m .added), s) } = active-is (pool-more m (c .rooms) pool.adding s g f (omega arith) (v .sound .counted) space) (omega arith) (rw (back, strip-here f s g space, add-one (m .added)) refl) in
-            rw (sends-it m pool.adding (t .0)) (ap (λ (x : mirror.Active). (mirror.done, x)) (rw (sound-back u) same), kept-new u)
+            let same : activeIn (oneMore m roles.adding) (filled (c .rooms) (m .added) s) ≡ record { pool = mirror.put s (a .pool); sent = suc (a .sent); out = mirror.adding (suc (m .added), s) } = active-is (pool-more m (c .rooms) roles.adding s g f (omega arith) (v .sound .counted) space) (omega arith) (rw (back, strip-here f s g space, add-one (m .added)) refl) in
+            rw (sends-it m roles.adding (t .0)) (ap (λ (x : mirror.Active). (mirror.done, x)) (rw (sound-back u) same), kept-new u)
 
   -- ---- taking: the room is kept until the acknowledgement comes
-  taking-sound : m .role ≡ pool.active → m .taken < m .added → m .added + m .taken < most → Sound 0 2 (oneTaken m pool.taking) (c .rooms)
+  taking-sound : m .role ≡ roles.active → m .taken < m .added → m .added + m .taken < most → Sound 0 2 (oneTaken m roles.taking) (c .rooms)
   unfolding oneTaken gone
   taking-sound e some small =
       let back : m .taken + 1 - 1 ≡ m .taken = omega arith in
@@ -139,27 +141,27 @@ module _ (c : Cabinet) (v : Active c) where
   take-follows =
       lent-follows (λ x. (afterHanding x .0, activeOf (afterHanding x .1))) (λ x. Active (afterHanding x .1)) _ (λ r. (mirror.refused r, a)) _ _ (λ r. (refl, v)) _ _ take-checks new where
         new : passes (waits ((15, mirror.noneHeld (a .pool .held)) ∷ [])) ≡ true
-            → Follows Active activeOf (afterHanding (answer.done tt, (stateBytes (oneTaken m (sending m pool.taking)), choose (eqb (m .role) pool.alone) (handing (c .rooms) (m .taken)) (handingNone (c .rooms) (replicate 676 0)))))
+            → Follows Active activeOf (afterHanding (answer.done tt, (stateBytes (oneTaken m (sending m roles.taking)), choose (eqb (m .role) roles.alone) (handing (c .rooms) (m .taken)) (handingNone (c .rooms) (replicate 676 0)))))
             (mirror.done, record { pool = mirror.less (a .pool); sent = suc (a .sent); out = mirror.taking (mirror.lowest (a .pool .held)) })
         new e =
             let t = let-through _ e in
             let some = some-held m (c .rooms) (same-none m (c .rooms) ∙ passes-first 15 (mirror.noneHeld (a .pool .held)) [] (t .2) .0) in
             let u = taking-sound (t .0) some (t .1) in
             let back : m .taken + 1 - 1 ≡ m .taken = omega arith in
-            let same : activeIn (oneTaken m pool.taking) (c .rooms) ≡ record { pool = mirror.less (a .pool); sent = suc (a .sent); out = mirror.taking (mirror.lowest (a .pool .held)) } = active-is (pool-less m (c .rooms) pool.taking some) (omega arith) (rw (pool-lowest m (c .rooms) some, back, add-one (m .taken)) refl) in
-            rw (sends-it m pool.taking (t .0), t .0, none-handed) (ap (λ (x : mirror.Active). (mirror.done, x)) (rw (sound-back u) same), kept-new u)
+            let same : activeIn (oneTaken m roles.taking) (c .rooms) ≡ record { pool = mirror.less (a .pool); sent = suc (a .sent); out = mirror.taking (mirror.lowest (a .pool .held)) } = active-is (pool-less m (c .rooms) roles.taking some) (omega arith) (rw (pool-lowest m (c .rooms) some, back, add-one (m .taken)) refl) in
+            rw (sends-it m roles.taking (t .0), t .0, none-handed) (ap (λ (x : mirror.Active). (mirror.done, x)) (rw (sound-back u) same), kept-new u)
 
   -- ---- an acknowledgement
   abbrev quiet : mirror.Active
   quiet = record { pool = a .pool; sent = a .sent; out = mirror.nothing }
 
   -- where nothing is outstanding none counts
-  nothing-out : pool.waiting m ≡ false → _≡_ {A = Said × mirror.Active} (mirror.settled (a .out), quiet) (mirror.done, a)
+  nothing-out : master.waiting m ≡ false → _≡_ {A = Said × mirror.Active} (mirror.settled (a .out), quiet) (mirror.done, a)
   unfolding activeIn outIn
   nothing-out e = let z = idle m (v .sound .greatest) e in rw z refl
 
   -- once it is settled the room of a taking is free
-  settled-sound : (rooms : List ℕ) → Filled (m .taken) (m .added) rooms → Sound 0 2 (withRole m pool.active) rooms
+  settled-sound : (rooms : List ℕ) → Filled (m .taken) (m .added) rooms → Sound 0 2 (withRole m roles.active) rooms
   unfolding withRole
   settled-sound rooms f = record {
     least = omega arith;
@@ -169,11 +171,11 @@ module _ (c : Cabinet) (v : Active c) where
     takes = λ x. absurd (omega arith);
     small = v .sound .small;
     numbered = λ _. v .sound .numbered (λ x. omega (arith, v .sound .greatest));
-    filled = rw (gone-is (withRole m pool.active) (λ x. omega arith)) f;
+    filled = rw (gone-is (withRole m roles.active) (λ x. omega arith)) f;
   }
 
-  settles : (strip : List ℕ) → pool.waiting m ≡ true → Follows Active activeOf (afterHanding (answer.done tt, settle m (c .rooms) strip)) (mirror.settled (a .out), quiet)
-  unfolding pool.waiting settle afterHanding handing handingNone withRole gone activeIn poolIn outIn
+  settles : (strip : List ℕ) → master.waiting m ≡ true → Follows Active activeOf (afterHanding (answer.done tt, settle m (c .rooms) strip)) (mirror.settled (a .out), quiet)
+  unfolding master.waiting settle afterHanding handing handingNone withRole gone activeIn poolIn outIn
   settles strip w = go (m .role) refl (v .sound .greatest) where
     go : (r : ℕ) → m .role ≡ r → r ≤ 2 → Follows Active activeOf (afterHanding (answer.done tt, settle m (c .rooms) strip)) (mirror.settled (a .out), quiet)
     go zero e h = let z : false ≡ true = rw e at w in absurd (true-false (sym z))
@@ -185,15 +187,15 @@ module _ (c : Cabinet) (v : Active c) where
         let some : 0 < m .taken = v .sound .takes e in
         let back : m .taken - 1 + 1 ≡ m .taken = omega arith in
         let u = settled-sound (cleared (c .rooms) (m .taken - 1)) (rw back at (first-cleared f (omega (arith, v .sound .counted)))) in
-        let same : activeIn (withRole m pool.active) (cleared (c .rooms) (m .taken - 1)) ≡ quiet = active-is (pool-cleared m (c .rooms) f (omega arith) (v .sound .counted)) refl refl in
+        let same : activeIn (withRole m roles.active) (cleared (c .rooms) (m .taken - 1)) ≡ quiet = active-is (pool-cleared m (c .rooms) f (omega arith) (v .sound .counted)) refl refl in
         rw (e, back, some-handed (m .taken) (roomAt (c .rooms) (m .taken - 1)) (omega (arith, v .sound .counted, v .sound .small)) some)
         (ap (λ (x : mirror.Active). (mirror.handed (m .taken, stripIn (roomAt (c .rooms) (m .taken - 1))), x)) (rw (sound-back u) same), kept-new u)
     go (suc (suc (suc r))) e h = absurd (omega arith)
 
   pub acknowledge-follows : (bytes : List ℕ) (k : ℕ) → readOf bytes ≡ Acknowledges k → Follows Active activeOf (acknowledge bytes c) (mirror.acknowledge k a)
   unfolding acknowledge acknowledgeOf afterHanding handingNone counts first mirror.acknowledge activeIn
-  acknowledge-follows bytes k e = rw (lent-out v (omega arith), e) (go (pool.waiting m) (eqb k (sent m)) refl) where
-    go : (w t : Bool) → pool.waiting m ≡ w
+  acknowledge-follows bytes k e = rw (lent-out v (omega arith), e) (go (master.waiting m) (eqb k (sent m)) refl) where
+    go : (w t : Bool) → master.waiting m ≡ w
         → Follows Active activeOf (afterHanding (answer.done tt, choose (both w t) (settle m (c .rooms) (replicate 676 0)) (c .state, handingNone (c .rooms) (replicate 676 0)))) (choose t (mirror.settled (a .out), quiet) (mirror.done, a))
     go true true e = settles (replicate 676 0) e
     go true false e = (rw (none-handed (replicate 676 0)) refl, v)

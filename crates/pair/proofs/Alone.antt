@@ -16,9 +16,11 @@ use Rattle.strip.specs.Strip.{ownChecks}
 use Rattle.mirror.specs.Mirror as mirror
 use Rattle.mirror.specs.Mirror.{Strips, Said}
 use Rattle.refusal.proofs.First.{passes-first, passes-both}
-use Rattle.master.specs.declared.State.{State}
-use Rattle.master.specs.State as pool
-use Rattle.master.specs.State.{stateIn, stateBytes, sent, usedUp, sending}
+use Rattle.state.specs.declared.State.{State}
+use Rattle.state.specs.State as roles
+use Rattle.master.specs.Master as master
+use Rattle.state.specs.State.{stateIn, stateBytes, sent}
+use Rattle.master.specs.Master.{usedUp, sending}
 use Rattle.pool.specs.Rooms.{roomAt, filled, cleared, stripIn, handing, handingNone}
 use Rattle.checks.specs.Checks.{addChecks, takeChecks}
 use Rattle.pool.specs.Calls.{oneMore, oneTaken, withRole, addOf, takeOf, goAloneOf}
@@ -32,15 +34,15 @@ abbrev pub poolOf : Cabinet → mirror.Pool
 poolOf c = poolIn (stateIn (c .state)) (c .rooms)
 
 -- alone, 23 and 24 fall away, and nothing is sent
-not-waiting : (m : State) → m .role ≡ pool.alone → pool.waiting m ≡ false
-unfolding pool.waiting
+not-waiting : (m : State) → m .role ≡ roles.alone → master.waiting m ≡ false
+unfolding master.waiting
 not-waiting m e = rw e refl
 
-not-used : (m : State) → m .role ≡ pool.alone → usedUp m ≡ false
+not-used : (m : State) → m .role ≡ roles.alone → usedUp m ≡ false
 unfolding usedUp
 not-used m e = rw e refl
 
-stays : (m : State) (kind : ℕ) → m .role ≡ pool.alone → sending m kind ≡ pool.alone
+stays : (m : State) (kind : ℕ) → m .role ≡ roles.alone → sending m kind ≡ roles.alone
 unfolding sending
 stays m kind e = rw e refl
 
@@ -67,7 +69,7 @@ module _ (c : Cabinet) (l o : Strips) (v : Standby (length l + length o) c) wher
   filled-now = rw (gone-is m (λ e. omega (arith, v .kept .sound .least))) at (v .kept .sound .filled)
 
   -- ---- the cut
-  cut-sound : Sound 3 4 (withRole m pool.alone) (c .rooms)
+  cut-sound : Sound 3 4 (withRole m roles.alone) (c .rooms)
   unfolding withRole
   cut-sound = record {
     least = omega arith;
@@ -77,24 +79,24 @@ module _ (c : Cabinet) (l o : Strips) (v : Standby (length l + length o) c) wher
     takes = λ e. absurd (omega arith);
     small = v .kept .sound .small;
     numbered = λ d. absurd (d refl);
-    filled = rw (gone-is (withRole m pool.alone) (λ e. omega arith)) filled-now;
+    filled = rw (gone-is (withRole m roles.alone) (λ e. omega arith)) filled-now;
   }
 
   pub cut-follows : Follows (Standby n) (standbyOf n) (goAlone c) (mirror.done, mirror.goAlone b)
   unfolding goAlone goAloneOf afterAlone first mirror.goAlone standbyIn withRole poolIn
   cut-follows =
-      rw (a-state (v .kept) (omega arith), le-ltb (m .role) pool.standby (v .kept .sound .least))
+      rw (a-state (v .kept) (omega arith), le-ltb (m .role) roles.standby (v .kept .sound .least))
       (rw (sound-back cut-sound) refl, record { kept = kept-new cut-sound; alone = λ e. absurd (never e) }) where
-        never : stateIn (stateBytes (withRole m pool.alone)) .role ≡ pool.standby → ⊥
-        never e = let z : withRole m pool.alone .role ≡ pool.standby = rw (sound-back cut-sound) at e in omega arith
+        never : stateIn (stateBytes (withRole m roles.alone)) .role ≡ roles.standby → ⊥
+        never e = let z : withRole m roles.alone .role ≡ roles.standby = rw (sound-back cut-sound) at e in omega arith
 
   -- ---- before it
-  pub waits-add : (s : List ℕ) → m .role ≡ pool.standby → add s c ≡ (mirror.refused (refusal 6), c)
-  unfolding add addOf afterAdd first pool.isStandby
+  pub waits-add : (s : List ℕ) → m .role ≡ roles.standby → add s c ≡ (mirror.refused (refusal 6), c)
+  unfolding add addOf afterAdd first master.isStandby
   waits-add s e = rw (lent (v .kept) (omega arith), e) refl
 
-  pub waits-take : m .role ≡ pool.standby → takeOut c ≡ (mirror.refused (refusal 6), c)
-  unfolding takeOut takeOf afterHanding first pool.isStandby
+  pub waits-take : m .role ≡ roles.standby → takeOut c ≡ (mirror.refused (refusal 6), c)
+  unfolding takeOut takeOf afterHanding first master.isStandby
   waits-take e = rw (lent-out (v .kept) (omega arith), e) refl
 
   -- ---- after it: what is told, what it then holds, and that it has applied no more
@@ -110,22 +112,22 @@ module _ (c : Cabinet) (l o : Strips) (v : Standby (length l + length o) c) wher
   unchanged : Lone n c
   unchanged = record { still = v; applied = refl; alone = refl }
 
-  module _ (here : m .role ≡ pool.alone) where
-    changed : {m′ : State} {rooms′ : List ℕ} (byItself : ℕ) → Sound 3 4 m′ rooms′ → m′ .role ≡ pool.alone → sent m′ ≡ suc (sent m) → byItself ≡ suc n
+  module _ (here : m .role ≡ roles.alone) where
+    changed : {m′ : State} {rooms′ : List ℕ} (byItself : ℕ) → Sound 3 4 m′ rooms′ → m′ .role ≡ roles.alone → sent m′ ≡ suc (sent m) → byItself ≡ suc n
         → Lone byItself (record { state = stateBytes m′; rooms = rooms′ })
     unfolding standbyIn
     changed {m′} {rooms′} byItself u role one more = record {
       still = record { kept = kept-new u; alone = rw (sound-back u) (λ e. absurd (omega arith)) };
       applied = rw (sound-back u) (omega arith);
-      alone = rw (sound-back u) (ap (λ (y : ℕ). eqb y pool.alone) (role ∙ sym here));
+      alone = rw (sound-back u) (ap (λ (y : ℕ). eqb y roles.alone) (role ∙ sym here));
     }
 
     add-checks : (s : List ℕ) → addChecks (c .state) (length (c .rooms)) s ≡ (6, false) ∷ (23, false) ∷ (24, false) ∷ ownChecks s ++ ((14, mirror.noRoom (poolOf c)) ∷ [])
-    unfolding pool.isStandby
+    unfolding master.isStandby
     add-checks s = rw (lent (v .kept) (omega arith), not-waiting m here, not-used m here, same-room m (c .rooms), here) refl
 
     take-checks : takeChecks (c .state) (length (c .rooms)) (length {A = ℕ} (replicate 4 0)) (length {A = ℕ} (replicate 676 0)) ≡ (6, false) ∷ (23, false) ∷ (24, false) ∷ (15, mirror.noneHeld (poolOf c .held)) ∷ []
-    unfolding pool.isStandby
+    unfolding master.isStandby
     take-checks = rw (lent-out (v .kept) (omega arith), not-waiting m here, not-used m here, same-none m (c .rooms), here) refl
 
     abbrev Added : Answer (Unit {0}) × (List ℕ × List ℕ) → Type 0
@@ -136,15 +138,15 @@ module _ (c : Cabinet) (l o : Strips) (v : Standby (length l + length o) c) wher
     add-alone-follows s =
         lent-follows (λ y. (afterAdd y .0, poolOf (afterAdd y .1))) Added _ (λ r. (mirror.refused r, poolOf c)) _ _ (λ r. (refl, λ x. unchanged)) _ _ (add-checks s) new where
           new : passes (ownChecks s ++ ((14, mirror.noRoom (poolOf c)) ∷ [])) ≡ true
-              → let y : Answer (Unit {0}) × (List ℕ × List ℕ) = (answer.done tt, (stateBytes (oneMore m (sending m pool.adding)), filled (c .rooms) (m .added) s)) in
+              → let y : Answer (Unit {0}) × (List ℕ × List ℕ) = (answer.done tt, (stateBytes (oneMore m (sending m roles.adding)), filled (c .rooms) (m .added) s)) in
               (_≡_ {A = Said × mirror.Pool} (afterAdd y .0, poolOf (afterAdd y .1)) (mirror.done, mirror.put s (poolOf c))) × Added y
           new e =
               let p = passes-both (ownChecks s) ((14, mirror.noRoom (poolOf c)) ∷ []) e in
               let g = own-good s (p .0) in
               let free = room-left m (c .rooms) (same-room m (c .rooms) ∙ passes-first 14 (mirror.noRoom (poolOf c)) [] (p .1) .0) in
-              let u : Sound 3 4 (oneMore m pool.alone) (filled (c .rooms) (m .added) s) = more-sound m filled-now 3 4 pool.alone (omega arith) (omega arith) (λ x. omega arith) s (g .short) (free .0) (free .1) (λ d. absurd (d refl)) in
-              let same = pool-more m (c .rooms) pool.alone s g filled-now (omega arith) (v .kept .sound .counted) (omega (arith, v .kept .sound .counted)) in
-              rw (stays m pool.adding here) (ap (λ (q : mirror.Pool). (mirror.done, q)) (rw (sound-back u) same), λ x. changed (suc (length l) + length o) u refl (more-sent m pool.alone) (omega arith))
+              let u : Sound 3 4 (oneMore m roles.alone) (filled (c .rooms) (m .added) s) = more-sound m filled-now 3 4 roles.alone (omega arith) (omega arith) (λ x. omega arith) s (g .short) (free .0) (free .1) (λ d. absurd (d refl)) in
+              let same = pool-more m (c .rooms) roles.alone s g filled-now (omega arith) (v .kept .sound .counted) (omega (arith, v .kept .sound .counted)) in
+              rw (stays m roles.adding here) (ap (λ (q : mirror.Pool). (mirror.done, q)) (rw (sound-back u) same), λ x. changed (suc (length l) + length o) u refl (more-sent m roles.alone) (omega arith))
 
     abbrev Taken : Answer (Unit {0}) × (List ℕ × (List ℕ × (List ℕ × List ℕ))) → Type 0
     Taken y = Lone (length l + length (mirror.noteHanded (afterHanding y .0) o)) (afterHanding y .1)
@@ -155,12 +157,12 @@ module _ (c : Cabinet) (l o : Strips) (v : Standby (length l + length o) c) wher
         lent-follows (λ y. (afterHanding y .0, poolOf (afterHanding y .1))) Taken _ (λ r. (mirror.refused r, poolOf c)) _ _ (λ r. (refl, unchanged)) _ _ take-checks (new (replicate 676 0)) where
           new : (strip : List ℕ) → passes ((15, mirror.noneHeld (poolOf c .held)) ∷ []) ≡ true
               → let y : Answer (Unit {0}) × (List ℕ × (List ℕ × (List ℕ × List ℕ))) =
-              (answer.done tt, (stateBytes (oneTaken m (sending m pool.taking)), choose (eqb (m .role) pool.alone) (handing (c .rooms) (m .taken)) (handingNone (c .rooms) strip))) in
+              (answer.done tt, (stateBytes (oneTaken m (sending m roles.taking)), choose (eqb (m .role) roles.alone) (handing (c .rooms) (m .taken)) (handingNone (c .rooms) strip))) in
               (_≡_ {A = Said × mirror.Pool} (afterHanding y .0, poolOf (afterHanding y .1)) (mirror.handed (mirror.lowest (poolOf c .held)), mirror.less (poolOf c))) × Taken y
           new strip e =
               let some = some-held m (c .rooms) (same-none m (c .rooms) ∙ passes-first 15 (mirror.noneHeld (poolOf c .held)) [] e .0) in
-              let u : Sound 3 4 (oneTaken m pool.alone) (cleared (c .rooms) (m .taken)) = less-sound m filled-now 3 4 pool.alone (omega arith) (omega arith) (λ x. omega arith) (λ x. omega arith) some (v .kept .sound .small) (λ d. absurd (d refl)) in
-              let same = pool-cleared (oneTaken m pool.alone) (c .rooms) filled-now (omega arith) (omega arith) ∙ pool-less m (c .rooms) pool.alone some in
+              let u : Sound 3 4 (oneTaken m roles.alone) (cleared (c .rooms) (m .taken)) = less-sound m filled-now 3 4 roles.alone (omega arith) (omega arith) (λ x. omega arith) (λ x. omega arith) some (v .kept .sound .small) (λ d. absurd (d refl)) in
+              let same = pool-cleared (oneTaken m roles.alone) (c .rooms) filled-now (omega arith) (omega arith) ∙ pool-less m (c .rooms) roles.alone some in
               let lowest : mirror.handed (m .taken + 1, stripIn (roomAt (c .rooms) (m .taken))) ≡ mirror.handed (mirror.lowest (poolOf c .held)) = rw (pool-lowest m (c .rooms) some, add-one (m .taken)) refl in
-              rw (stays m pool.taking here, eq-eqb (m .role) pool.alone here, some-handed (m .taken + 1) (roomAt (c .rooms) (m .taken)) (omega (arith, v .kept .sound .small)) (omega arith))
-              (ap₂ (λ (q : Said) (y : mirror.Pool). (q, y)) lowest (rw (sound-back u) same), changed (length l + suc (length o)) u refl (less-sent m pool.alone) (omega arith))
+              rw (stays m roles.taking here, eq-eqb (m .role) roles.alone here, some-handed (m .taken + 1) (roomAt (c .rooms) (m .taken)) (omega (arith, v .kept .sound .small)) (omega arith))
+              (ap₂ (λ (q : Said) (y : mirror.Pool). (q, y)) lowest (rw (sound-back u) same), changed (length l + suc (length o)) u refl (less-sent m roles.alone) (omega arith))

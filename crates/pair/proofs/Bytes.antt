@@ -17,8 +17,8 @@ use Rattle.strip.proofs.Good.{unspoilt, own-short}
 use Rattle.message.specs.Message.{numberBytes, numberAt, frontBytes, addition, taking, acknowledgement, misframed, isOf, readOf}
 use Rattle.message.proofs.Laws.{adds}
 use Rattle.message.specs.declared.Message.the-variants.{Adds, Takes, Acknowledges}
-use Rattle.master.specs.declared.State.{State}
-use Rattle.master.specs.State.{most, stateIn, stateBytes}
+use Rattle.state.specs.declared.State.{State}
+use Rattle.state.specs.State.{most, stateIn, stateBytes}
 use Rattle.pool.specs.Rooms.{padded, stripIn}
 use Rattle.pair.specs.Pair.{sentIn}
 

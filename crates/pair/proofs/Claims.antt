@@ -8,8 +8,8 @@ use Rattle.strip.specs.Strip.{ownChecks}
 use Rattle.mirror.specs.Mirror.{Said, World, paper}
 use Rattle.mirror.specs.Claims.{Safe}
 use Rattle.mirror.proofs.Claims.{safety}
-use Rattle.master.specs.State as pool
-use Rattle.master.specs.State.{stateIn}
+use Rattle.state.specs.State as roles
+use Rattle.state.specs.State.{stateIn}
 use Rattle.pair.specs.Pair.{Cabinets, apply, ran, standbyIn, standsFor}
 use Rattle.pair.specs.Claims as claims
 use Rattle.pair.specs.Claims.{rules, Answers}
@@ -34,13 +34,13 @@ module _ (c : Cabinets) (v : Runs c) where
   abbrev role : ℕ
   role = stateIn (c .standby .state) .role
 
-  alone-role : w .standby .alone ≡ true → role ≡ pool.alone
+  alone-role : w .standby .alone ≡ true → role ≡ roles.alone
   unfolding standsFor standbyIn
-  alone-role e = eqb-true role pool.alone e
+  alone-role e = eqb-true role roles.alone e
 
-  waiting-role : w .standby .alone ≡ false → role ≡ pool.standby
+  waiting-role : w .standby .alone ≡ false → role ≡ roles.standby
   unfolding standsFor standbyIn
-  waiting-role e = omega (arith, eqb-false role pool.alone e, v .far .kept .sound .least, v .far .kept .sound .greatest)
+  waiting-role e = omega (arith, eqb-false role roles.alone e, v .far .kept .sound .least, v .far .kept .sound .greatest)
 
   answers : Answers c w
   unfolding paper standsFor standbyIn apply

@@ -14,15 +14,16 @@ use Rattle.refusal.proofs.First.{neither}
 use Rattle.message.specs.Message.{numberBytes, numberAt}
 use Rattle.mirror.specs.Mirror as mirror
 use Rattle.mirror.specs.Mirror.{Said, Checks}
-use Rattle.master.specs.declared.State.{State}
-use Rattle.master.specs.State as pool
-use Rattle.master.specs.State.{most, stateIn, stateBytes, sent, gone, neverSent, sentTooMuch, impossible, noState}
+use Rattle.state.specs.declared.State.{State}
+use Rattle.state.specs.State as roles
+use Rattle.master.specs.Master as master
+use Rattle.state.specs.State.{most, stateIn, stateBytes, sent, gone, neverSent, sentTooMuch, impossible, noState}
 use Rattle.pool.specs.Rooms.{roomAt, filled, cleared, stripIn}
 use Rattle.checks.specs.Checks.{notLent, notLentWith, notLentOut}
 use Rattle.pool.specs.Calls.{oneMore, oneTaken}
 use Rattle.pair.specs.Pair.{Cabinet, handedIn, heldIn, poolIn}
 use Rattle.pair.proofs.Rooms.{Filled, next-filled, first-cleared, filled-here, filled-held, cleared-held, held-length, held-more}
-use Rattle.master.proofs.Laws.{state-length, gone-other}
+use Rattle.state.proofs.Laws.{state-length, gone-other}
 use Rattle.pair.proofs.Bytes.{number-back, Good, strip-back, state-back}
 
 -- ---- a sound state, of a role from low to high: an outstanding message was sent, numbers fit their four bytes, and the rooms that strips have left are zero
@@ -30,10 +31,10 @@ pub record Sound (low high : ℕ) (m : State) (rooms : List ℕ) : Type 0 where
   pub least : low ≤ m .role
   pub greatest : m .role ≤ high
   pub counted : m .taken ≤ m .added
-  pub adds : m .role ≡ pool.adding → m .taken < m .added
-  pub takes : m .role ≡ pool.taking → 0 < m .taken
+  pub adds : m .role ≡ roles.adding → m .taken < m .added
+  pub takes : m .role ≡ roles.taking → 0 < m .taken
   pub small : m .added ≤ most
-  pub numbered : (m .role ≡ pool.alone → ⊥) → m .added + m .taken ≤ most
+  pub numbered : (m .role ≡ roles.alone → ⊥) → m .added + m .taken ≤ most
   pub filled : Filled (gone m) (m .added) rooms
 
 pub record Kept (low high : ℕ) (c : Cabinet) : Type 0 where
@@ -49,17 +50,17 @@ module _ {low high : ℕ} {m : State} {rooms : List ℕ} (v : Sound low high m r
   never : neverSent m ≡ false
   unfolding neverSent
   never =
-      rw (not-both (eqb (m .role) pool.adding) (eqb (m .added) (m .taken)) (λ t. ne-eqb (m .added) (m .taken) (λ e. omega (arith, v .adds (eqb-true (m .role) pool.adding t)))))
-      (not-both (eqb (m .role) pool.taking) (eqb (m .taken) 0) (λ t. ne-eqb (m .taken) 0 (λ e. omega (arith, v .takes (eqb-true (m .role) pool.taking t)))))
+      rw (not-both (eqb (m .role) roles.adding) (eqb (m .added) (m .taken)) (λ t. ne-eqb (m .added) (m .taken) (λ e. omega (arith, v .adds (eqb-true (m .role) roles.adding t)))))
+      (not-both (eqb (m .role) roles.taking) (eqb (m .taken) 0) (λ t. ne-eqb (m .taken) 0 (λ e. omega (arith, v .takes (eqb-true (m .role) roles.taking t)))))
 
   not-too-much : sentTooMuch m ≡ false
   unfolding sentTooMuch
-  not-too-much = not-both (isNot pool.alone (m .role)) (above most (sent m)) (λ t. le-ltb most (sent m) (v .numbered (eqb-false (m .role) pool.alone (not-true _ t))))
+  not-too-much = not-both (isNot roles.alone (m .role)) (above most (sent m)) (λ t. le-ltb most (sent m) (v .numbered (eqb-false (m .role) roles.alone (not-true _ t))))
 
-  possible : high ≤ pool.alone → impossible m ≡ false
+  possible : high ≤ roles.alone → impossible m ≡ false
   unfolding impossible
   possible h =
-      simp (le-ltb pool.alone (m .role) (omega (arith, v .greatest)), le-ltb (m .added) (m .taken) (v .counted), le-ltb (gone m + 64) (m .added) (v .filled .fits), never, not-too-much)
+      simp (le-ltb roles.alone (m .role) (omega (arith, v .greatest)), le-ltb (m .added) (m .taken) (v .counted), le-ltb (gone m + 64) (m .added) (v .filled .fits), never, not-too-much)
 
   pub sound-back : stateIn (stateBytes m) ≡ m
   sound-back = state-back m (v .small) (omega (arith, v .counted, v .small))
@@ -68,7 +69,7 @@ module _ {low high : ℕ} {m : State} {rooms : List ℕ} (v : Sound low high m r
   kept-new = record { nine = state-length m; sound = rw sound-back v }
 
 -- the calls take the state and the rooms as lent
-module _ {low high : ℕ} {c : Cabinet} (v : Kept low high c) (h : high ≤ pool.alone) where
+module _ {low high : ℕ} {c : Cabinet} (v : Kept low high c) (h : high ≤ roles.alone) where
   pub a-state : noState (c .state) ≡ false
   unfolding noState
   a-state = simp (v .nine, possible (v .sound) h)
@@ -91,12 +92,12 @@ strip-here v s g space = ap stripIn (filled-here v s (g .short) space) ∙ strip
 
 -- ---- refusals: 14 and 15 are the system's
 module _ (m : State) (rooms : List ℕ) where
-  pub same-room : pool.noRoom m ≡ mirror.noRoom (poolIn m rooms)
-  unfolding pool.noRoom mirror.noRoom mirror.most poolIn
+  pub same-room : master.noRoom m ≡ mirror.noRoom (poolIn m rooms)
+  unfolding master.noRoom mirror.noRoom mirror.most poolIn
   same-room = rw (held-length rooms (m .taken) (m .added - m .taken)) refl
 
-  pub same-none : pool.noneHeld m ≡ mirror.noneHeld (poolIn m rooms .held)
-  unfolding pool.noneHeld poolIn heldIn
+  pub same-none : master.noneHeld m ≡ mirror.noneHeld (poolIn m rooms .held)
+  unfolding master.noneHeld poolIn heldIn
   same-none = go (m .added - m .taken) refl where
     go : (count : ℕ) → m .added - m .taken ≡ count → leb (m .added) (m .taken) ≡ mirror.noneHeld (heldIn rooms (m .taken) count)
     go zero e = le-leb (m .added) (m .taken) (omega arith)
@@ -133,22 +134,22 @@ module _ (m : State) (rooms : List ℕ) where
   pool-cleared v h q = rw (cleared-held v (m .taken) (m .added - m .taken) h (omega arith)) refl
 
   -- what 14 and 15 let through
-  pub room-left : pool.noRoom m ≡ false → (m .added - m .taken < 64) × (m .added < most)
-  unfolding pool.noRoom
+  pub room-left : master.noRoom m ≡ false → (m .added - m .taken < 64) × (m .added < most)
+  unfolding master.noRoom
   room-left e =
       let n = neither (leb 64 (m .added - m .taken)) _ e in
       (leb-false 64 (m .added - m .taken) (n .0), leb-false most (m .added) (n .1))
 
-  pub some-held : pool.noneHeld m ≡ false → m .taken < m .added
-  unfolding pool.noneHeld
+  pub some-held : master.noneHeld m ≡ false → m .taken < m .added
+  unfolding master.noneHeld
   some-held e = leb-false (m .added) (m .taken) e
 
 -- ---- soundness after an addition, and after a taking that leaves its room at once
-pub gone-is : (m : State) → (m .role ≡ pool.taking → ⊥) → gone m ≡ m .taken
+pub gone-is : (m : State) → (m .role ≡ roles.taking → ⊥) → gone m ≡ m .taken
 gone-is m h = sym (gone-other m h)
 
-module _ (m : State) {rooms : List ℕ} (v : Filled (m .taken) (m .added) rooms) (low high role : ℕ) (least : low ≤ role) (greatest : role ≤ high) (here : role ≡ pool.taking → ⊥) where
-  pub more-sound : (s : List ℕ) → length s ≤ 676 → m .added - m .taken < 64 → m .added < most → ((role ≡ pool.alone → ⊥) → m .added + m .taken < most)
+module _ (m : State) {rooms : List ℕ} (v : Filled (m .taken) (m .added) rooms) (low high role : ℕ) (least : low ≤ role) (greatest : role ≤ high) (here : role ≡ roles.taking → ⊥) where
+  pub more-sound : (s : List ℕ) → length s ≤ 676 → m .added - m .taken < 64 → m .added < most → ((role ≡ roles.alone → ⊥) → m .added + m .taken < most)
       → Sound low high (oneMore m role) (filled rooms (m .added) s)
   unfolding oneMore
   more-sound s short space small numbered = record {
@@ -162,7 +163,7 @@ module _ (m : State) {rooms : List ℕ} (v : Filled (m .taken) (m .added) rooms)
     filled = rw (gone-is (oneMore m role) here) (next-filled v s short (omega (arith, v .ordered)));
   }
 
-  pub less-sound : (role ≡ pool.adding → ⊥) → m .taken < m .added → m .added ≤ most → ((role ≡ pool.alone → ⊥) → m .added + m .taken < most)
+  pub less-sound : (role ≡ roles.adding → ⊥) → m .taken < m .added → m .added ≤ most → ((role ≡ roles.alone → ⊥) → m .added + m .taken < most)
       → Sound low high (oneTaken m role) (cleared rooms (m .taken))
   unfolding oneTaken
   less-sound other some small numbered = record {

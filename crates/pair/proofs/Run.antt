@@ -16,8 +16,8 @@ use Rattle.message.specs.declared.Message.the-variants.{Acknowledges}
 use Rattle.mirror.specs.Mirror as mirror
 use Rattle.mirror.specs.Mirror.{Strips, Said, Event, adds-strip, takes-strip, sends, arrives, answered, cuts, adds-alone, takes-alone, at, paper, step, after}
 use Rattle.mirror.proofs.Pools.{all-append, all-at}
-use Rattle.master.specs.State as pool
-use Rattle.master.specs.State.{stateIn, gone}
+use Rattle.state.specs.State as roles
+use Rattle.state.specs.State.{most, stateIn, gone}
 use Rattle.pool.specs.Calls.{addOf}
 use Rattle.pair.specs.Pair.{Cabinet, Cabinets, told, afterAdd, add, takeOut, acknowledge, apply, applyAt, goAlone, outstanding, sentBack, nextNumber, withActive, withAdded, withSent, withStandby, withAddedAlone, withTakenAlone, arrived, came, ranStep, bare, begin, ran, poolIn, outIn, activeIn, standbyIn, messagesIn, numbersIn, standsFor, heldIn}
 use Rattle.pair.specs.Claims.{rules, Means, Messages, Acknowledgements}
@@ -51,7 +51,7 @@ messages-at zero (bytes ∷ l) h = rw (h .0 .1 .0) refl
 messages-at (suc k) (bytes ∷ l) h = rw (h .0 .1 .0) (messages-at k l (h .1))
 
 -- and its way back for as many numbers
-number-is : (bytes : List ℕ) (k : ℕ) → bytes ≡ acknowledgement k → k ≤ pool.most → readOf bytes ≡ Acknowledges k
+number-is : (bytes : List ℕ) (k : ℕ) → bytes ≡ acknowledgement k → k ≤ most → readOf bytes ≡ Acknowledges k
 number-is bytes k e h = rw e (acknowledgement-back k h)
 
 numbers-at : (k : ℕ) (l : List (List ℕ)) → Acknowledgements l → at k (numbersIn l) ≡ numbersIn (at k l)
@@ -119,12 +119,12 @@ module _ (c : Cabinets) (v : Runs c) where
   role = stateIn (c .standby .state) .role
 
   -- adding and taking are asked of any standby: one that is not alone changes nothing, as in the system
-  by-alone : (c′ : Cabinets) (x : mirror.World) → (role ≡ pool.standby → c′ ≡ c) → (role ≡ pool.alone → Lifts c′ x) → Lifts c′ (choose (w .standby .alone) x w)
+  by-alone : (c′ : Cabinets) (x : mirror.World) → (role ≡ roles.standby → c′ ≡ c) → (role ≡ roles.alone → Lifts c′ x) → Lifts c′ (choose (w .standby .alone) x w)
   unfolding standsFor standbyIn
-  by-alone c′ x waits goes-on = by-bool (eqb role pool.alone)
-      (λ t. let h = goes-on (eqb-true role pool.alone t) in (h .0 ∙ ap (λ (b : Bool). choose b x w) (sym t), h .1))
+  by-alone c′ x waits goes-on = by-bool (eqb role roles.alone)
+      (λ t. let h = goes-on (eqb-true role roles.alone t) in (h .0 ∙ ap (λ (b : Bool). choose b x w) (sym t), h .1))
       (λ f.
-      let e : role ≡ pool.standby = omega (arith, eqb-false role pool.alone f, v .far .kept .sound .least, v .far .kept .sound .greatest) in
+      let e : role ≡ roles.standby = omega (arith, eqb-false role roles.alone f, v .far .kept .sound .least, v .far .kept .sound .greatest) in
       (ap standsFor (waits e) ∙ ap (λ (b : Bool). choose b x w) (sym f), rw (waits e) v))
 
   lifts-add-alone : (s : List ℕ) → Lifts (withAddedAlone c s (add s (c .standby))) (choose (w .standby .alone) (mirror.addedAlone w s (mirror.addAlone ownChecks s (w .standby .pool))) w)
@@ -170,7 +170,7 @@ bare-state : (role : ℕ) → stateIn (role ∷ replicate 8 0) ≡ record { role
 unfolding stateIn numberAt
 bare-state role = refl
 
-bare-sound : (low high role : ℕ) → low ≤ role → role ≤ high → (role ≡ pool.adding → ⊥) → (role ≡ pool.taking → ⊥) → Kept low high (bare role)
+bare-sound : (low high role : ℕ) → low ≤ role → role ≤ high → (role ≡ roles.adding → ⊥) → (role ≡ roles.taking → ⊥) → Kept low high (bare role)
 unfolding bare gone
 bare-sound low high role l h a t = record {
   nine = refl;
@@ -186,11 +186,11 @@ bare-sound low high role l h a t = record {
   });
 }
 
-bare-active : (rooms : List ℕ) → activeIn (stateIn (pool.active ∷ replicate 8 0)) rooms ≡ mirror.start .active
+bare-active : (rooms : List ℕ) → activeIn (stateIn (roles.active ∷ replicate 8 0)) rooms ≡ mirror.start .active
 unfolding activeIn poolIn outIn heldIn mirror.start mirror.empty
-bare-active rooms = rw (bare-state pool.active) refl
+bare-active rooms = rw (bare-state roles.active) refl
 
-bare-standby : (role : ℕ) (rooms : List ℕ) → standbyIn (stateIn (role ∷ replicate 8 0)) rooms 0 ≡ record { pool = mirror.empty; applied = 0; alone = eqb role pool.alone }
+bare-standby : (role : ℕ) (rooms : List ℕ) → standbyIn (stateIn (role ∷ replicate 8 0)) rooms 0 ≡ record { pool = mirror.empty; applied = 0; alone = eqb role roles.alone }
 unfolding standbyIn poolIn heldIn mirror.empty
 bare-standby role rooms = rw (bare-state role) refl
 

@@ -19,9 +19,9 @@ use Rattle.message.specs.declared.Message.{Message}
 use Rattle.message.specs.declared.Message.the-variants.{Adds, Takes, Acknowledges, Unreadable}
 use Rattle.mirror.specs.Mirror as mirror
 use Rattle.mirror.specs.Mirror.{Said, Checks}
-use Rattle.master.specs.declared.State.{State}
-use Rattle.master.specs.State as pool
-use Rattle.master.specs.State.{most, stateIn, stateBytes, sent}
+use Rattle.state.specs.declared.State.{State}
+use Rattle.state.specs.State as roles
+use Rattle.state.specs.State.{most, stateIn, stateBytes, sent}
 use Rattle.pool.specs.Rooms.{filled, cleared}
 use Rattle.checks.specs.Checks as checks
 use Rattle.pool.specs.Calls as calls
@@ -40,7 +40,7 @@ standbyOf byItself c = standbyIn (stateIn (c .state)) (c .rooms) byItself
 pub record Standby (byItself : ℕ) (c : Cabinet) : Type 0 where
   -- roles 3 and 4
   pub kept : Kept 3 4 c
-  pub alone : stateIn (c .state) .role ≡ pool.standby → byItself ≡ 0
+  pub alone : stateIn (c .state) .role ≡ roles.standby → byItself ≡ 0
 
 -- ---- what a message asks for, in bytes and in the system
 both-true : (a b : Bool) → both a b ≡ true → (a ≡ true) × (b ≡ true)
@@ -66,7 +66,7 @@ record Applied (m : State) (before : List ℕ) (x : mirror.Message) (new : List 
   state : State
   rooms : List ℕ
   is : new ≡ (stateBytes state, rooms)
-  role : state .role ≡ pool.standby
+  role : state .role ≡ roles.standby
   sound : Sound 3 4 state rooms
   same : poolIn state rooms ≡ mirror.applyTo x (poolIn m before)
   next : sent state ≡ suc (sent m)
@@ -99,12 +99,12 @@ module _ (m : State) (rooms s : List ℕ) where
         let g = own-good s (p .0) in
         let space : m .added - m .taken < 64 = ltb-true _ 64 (q .0) in
         record {
-          state = oneMore m pool.standby;
+          state = oneMore m roles.standby;
           rooms = filled rooms (m .added) s;
           is = refl;
           role = refl;
-          sound = more-sound m f 3 4 pool.standby (omega arith) (omega arith) (λ x. omega arith) s (g .short) space (omega arith) (λ _. small);
-          same = pool-more m rooms pool.standby s g f (omega arith) (f .ordered) (omega (arith, f .ordered));
+          sound = more-sound m f 3 4 roles.standby (omega arith) (omega arith) (λ x. omega arith) s (g .short) space (omega arith) (λ _. small);
+          same = pool-more m rooms roles.standby s g f (omega arith) (f .ordered) (omega (arith, f .ordered));
           next = omega arith;
         }
 
@@ -113,12 +113,12 @@ module _ (m : State) (rooms s : List ℕ) where
     takes-applied k n e =
         let some : m .taken < m .added = ltb-true (m .taken) (m .added) (both-true (ltb (m .taken) (m .added)) _ e .0) in
         record {
-          state = oneTaken m pool.standby;
+          state = oneTaken m roles.standby;
           rooms = cleared rooms (m .taken);
           is = refl;
           role = refl;
-          sound = less-sound m f 3 4 pool.standby (omega arith) (omega arith) (λ x. omega arith) (λ x. omega arith) some (omega arith) (λ _. small);
-          same = pool-cleared (oneTaken m pool.standby) rooms f (omega arith) (omega arith) ∙ pool-less m rooms pool.standby some;
+          sound = less-sound m f 3 4 roles.standby (omega arith) (omega arith) (λ x. omega arith) (λ x. omega arith) some (omega arith) (λ _. small);
+          same = pool-cleared (oneTaken m roles.standby) rooms f (omega arith) (omega arith) ∙ pool-less m rooms roles.standby some;
           next = omega arith;
         }
 
@@ -173,16 +173,16 @@ module _ (c : Cabinet) (n : ℕ) (v : Standby n c) where
 
     same-applied : checks.notApplied m r s ≡ mirror.notApplied ownChecks x b
     unfolding checks.notApplied mirror.notApplied standbyIn
-    same-applied = by-bool (eqb (m .role) pool.standby) waits goes-on where
-      waits : eqb (m .role) pool.standby ≡ true → checks.notApplied m r s ≡ mirror.notApplied ownChecks x b
+    same-applied = by-bool (eqb (m .role) roles.standby) waits goes-on where
+      waits : eqb (m .role) roles.standby ≡ true → checks.notApplied m r s ≡ mirror.notApplied ownChecks x b
       waits t =
-          let e : m .role ≡ pool.standby = eqb-true (m .role) pool.standby t in
+          let e : m .role ≡ roles.standby = eqb-true (m .role) roles.standby t in
           let level : sent m - n ≡ sent m = omega (arith, v .alone e) in
           rw (level, read .message, read .numbered, read .fitting, e) refl
 
-      goes-on : eqb (m .role) pool.standby ≡ false → checks.notApplied m r s ≡ mirror.notApplied ownChecks x b
+      goes-on : eqb (m .role) roles.standby ≡ false → checks.notApplied m r s ≡ mirror.notApplied ownChecks x b
       goes-on f =
-          let e : m .role ≡ pool.alone = omega (arith, eqb-false (m .role) pool.standby f, v .kept .sound .least, v .kept .sound .greatest) in
+          let e : m .role ≡ roles.alone = omega (arith, eqb-false (m .role) roles.standby f, v .kept .sound .least, v .kept .sound .greatest) in
           rw e refl
 
     -- the acknowledgement that goes back
@@ -198,12 +198,12 @@ module _ (c : Cabinet) (n : ℕ) (v : Standby n c) where
     }
 
     -- one that is not refused finds a standby that is not alone, and is at most the next, and then one that fits
-    in-turn : mirror.notApplied ownChecks x b ≡ false → (m .role ≡ pool.standby) × (mirror.sequence x ≤ suc (sent m)) × (mirror.sequence x ≡ suc (sent m) → checks.fits m r s ≡ true)
+    in-turn : mirror.notApplied ownChecks x b ≡ false → (m .role ≡ roles.standby) × (mirror.sequence x ≤ suc (sent m)) × (mirror.sequence x ≡ suc (sent m) → checks.fits m r s ≡ true)
     unfolding mirror.notApplied standbyIn
     in-turn e =
-        let p = neither (eqb (m .role) pool.alone) _ e in
+        let p = neither (eqb (m .role) roles.alone) _ e in
         let q = neither (ltb (suc (sent m - n)) (mirror.sequence x)) _ (p .1) in
-        let here : m .role ≡ pool.standby = omega (arith, eqb-false (m .role) pool.alone (p .0), v .kept .sound .least, v .kept .sound .greatest) in
+        let here : m .role ≡ roles.standby = omega (arith, eqb-false (m .role) roles.alone (p .0), v .kept .sound .least, v .kept .sound .greatest) in
         let level : sent m - n ≡ sent m = omega (arith, v .alone here) in
         let most-next : mirror.sequence x ≤ suc (sent m) = omega (arith, ltb-false (suc (sent m - n)) (mirror.sequence x) (q .0)) in
         (here, most-next, λ i. read .fitting ∙ excluded (eqb (mirror.sequence x) (suc (sent m - n))) _ (q .1) (eq-eqb (mirror.sequence x) (suc (sent m - n)) (omega arith)))
@@ -215,18 +215,18 @@ module _ (c : Cabinet) (n : ℕ) (v : Standby n c) where
     unfolding afterApply
     hears-old = (rw acknowledges refl, heard (c .state) (c .rooms) v)
 
-    hears-next : m .role ≡ pool.standby → mirror.sequence x ≡ suc (sent m) → (w : Applied m (c .rooms) x (calls.applied m r s (c .rooms)))
+    hears-next : m .role ≡ roles.standby → mirror.sequence x ≡ suc (sent m) → (w : Applied m (c .rooms) x (calls.applied m r s (c .rooms)))
         → let now : List ℕ × List ℕ = calls.applied m r s (c .rooms) in Hears (answer.done tt, (now .0, (now .1, acknowledgement (mirror.sequence x)))) (mirror.acknowledged (mirror.sequence x), after)
     unfolding afterApply standbyIn
     hears-next here i w =
         let z : n ≡ 0 = v .alone here in
-        let same : standbyIn (w .state) (w .rooms) n ≡ after = standby-is (w .same) (omega (arith, w .next)) (ap (λ (y : ℕ). eqb y pool.alone) (w .role ∙ sym here)) in
+        let same : standbyIn (w .state) (w .rooms) n ≡ after = standby-is (w .same) (omega (arith, w .next)) (ap (λ (y : ℕ). eqb y roles.alone) (w .role ∙ sym here)) in
         rw (w .is) (
           rw acknowledges (ap (λ (y : mirror.Standby). (mirror.acknowledged (mirror.sequence x), y)) (rw (sound-back (w .sound)) same)),
           heard (stateBytes (w .state)) (w .rooms) (record { kept = kept-new (w .sound); alone = λ _. z }),
         )
 
-    applies : m .role ≡ pool.standby → mirror.sequence x ≡ suc (sent m) → checks.fits m r s ≡ true → Applied m (c .rooms) x (calls.applied m r s (c .rooms))
+    applies : m .role ≡ roles.standby → mirror.sequence x ≡ suc (sent m) → checks.fits m r s ≡ true → Applied m (c .rooms) x (calls.applied m r s (c .rooms))
     applies here i fit = read .applying (rw (gone-is m (λ e. omega arith)) at (v .kept .sound .filled)) (omega (arith, means .1)) fit
 
     pub apply-follows : Hears (applyAt bytes c) (mirror.receive ownChecks x b)
@@ -234,10 +234,10 @@ module _ (c : Cabinet) (n : ℕ) (v : Standby n c) where
     apply-follows =
         lent-follows (λ y. (afterApply y .0, standbyOf n (afterApply y .1))) Heard _ (λ r. (mirror.refused r, b)) _ _ unheard _ ((16, mirror.notApplied ownChecks x b) ∷ []) (apply-checks bytes _ same-applied)
         (λ e. let t = in-turn (passes-first 16 (mirror.notApplied ownChecks x b) [] e .0) in rw (read .numbered, level (t .0)) (go (leb (mirror.sequence x) (sent m)) refl t)) where
-          level : m .role ≡ pool.standby → leb (mirror.sequence x) (b .applied) ≡ leb (mirror.sequence x) (sent m)
+          level : m .role ≡ roles.standby → leb (mirror.sequence x) (b .applied) ≡ leb (mirror.sequence x) (sent m)
           level here = let z : sent m - n ≡ sent m = omega (arith, v .alone here) in ap (leb (mirror.sequence x)) z
 
-          go : (t : Bool) → leb (mirror.sequence x) (sent m) ≡ t → (m .role ≡ pool.standby) × (mirror.sequence x ≤ suc (sent m)) × (mirror.sequence x ≡ suc (sent m) → checks.fits m r s ≡ true)
+          go : (t : Bool) → leb (mirror.sequence x) (sent m) ≡ t → (m .role ≡ roles.standby) × (mirror.sequence x ≤ suc (sent m)) × (mirror.sequence x ≡ suc (sent m) → checks.fits m r s ≡ true)
               → let now : List ℕ × List ℕ = choose t (c .state, c .rooms) (calls.applied m r s (c .rooms)) in
               Hears (answer.done tt, (now .0, (now .1, acknowledgement (mirror.sequence x)))) (mirror.acknowledged (mirror.sequence x), choose t b after)
           go true e t = hears-old
@@ -248,7 +248,7 @@ module _ (c : Cabinet) (n : ℕ) (v : Standby n c) where
   -- bytes that are no message get 16
   pub apply-none : (bytes : List ℕ) → messageIn (readOf bytes) (drop 12 bytes) ≡ [] → apply bytes c .0 ≡ mirror.refused (refusal 16)
   unfolding apply afterApply applyOf checks.notApplied first
-  apply-none bytes e = rw (lent-with (v .kept) (omega arith) 8, none (readOf bytes) e, either-true (isNot pool.standby (m .role))) refl where
+  apply-none bytes e = rw (lent-with (v .kept) (omega arith) 8, none (readOf bytes) e, either-true (isNot roles.standby (m .role))) refl where
     none : (r : Message) → messageIn r (drop 12 bytes) ≡ [] → isMessage r ≡ false
     none (Adds k i) e = clash cc
     none (Takes k i) e = clash cc

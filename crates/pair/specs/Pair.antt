@@ -11,9 +11,9 @@ use Rattle.message.specs.declared.Message.{Message}
 use Rattle.message.specs.declared.Message.the-variants.{Adds, Takes, Acknowledges, Unreadable}
 use Rattle.mirror.specs.Mirror as mirror
 use Rattle.mirror.specs.Mirror.{Strips, Said, Event, adds-strip, takes-strip, sends, arrives, answered, cuts, adds-alone, takes-alone, at}
-use Rattle.master.specs.declared.State.{State}
-use Rattle.master.specs.State as pool
-use Rattle.master.specs.State.{stateIn, sent}
+use Rattle.state.specs.declared.State.{State}
+use Rattle.state.specs.State as roles
+use Rattle.state.specs.State.{stateIn, sent}
 use Rattle.checks.specs.Checks.{roomsSize}
 use Rattle.pool.specs.Rooms.{roomAt, stripIn}
 use Rattle.pool.specs.Calls.{addOf, takeOf, outstandingOf, acknowledgeOf, applyOf, goAloneOf}
@@ -139,7 +139,7 @@ unfoldable pub bare : ℕ → Cabinet
 bare role = record { state = role ∷ replicate 8 0; rooms = replicate roomsSize 0 }
 
 unfoldable pub begin : Cabinets
-begin = record { active = bare pool.active; standby = bare pool.standby; link = []; back = []; entered = []; enteredAlone = []; given = []; offered = [] }
+begin = record { active = bare roles.active; standby = bare roles.standby; link = []; back = []; entered = []; enteredAlone = []; given = []; offered = [] }
 
 -- the cabinets after any list of events, the last one first
 unfoldable pub ran : List Event → Cabinets
@@ -157,15 +157,15 @@ poolIn m rooms = record { added = m .added; taken = m .taken; held = heldIn room
 
 unfoldable pub outIn : State → List ℕ → mirror.Out
 outIn m rooms =
-    choose (eqb (m .role) pool.adding) (mirror.adding (m .added, stripIn (roomAt rooms (m .added - 1))))
-    (choose (eqb (m .role) pool.taking) (mirror.taking (m .taken, stripIn (roomAt rooms (m .taken - 1)))) mirror.nothing)
+    choose (eqb (m .role) roles.adding) (mirror.adding (m .added, stripIn (roomAt rooms (m .added - 1))))
+    (choose (eqb (m .role) roles.taking) (mirror.taking (m .taken, stripIn (roomAt rooms (m .taken - 1)))) mirror.nothing)
 
 unfoldable pub activeIn : State → List ℕ → mirror.Active
 activeIn m rooms = record { pool = poolIn m rooms; sent = sent m; out = outIn m rooms }
 
 -- A message applied is one strip added or taken. Alone it adds and takes by itself, without messages, and the host has seen each of those; so what it has applied is all that it added and took less these. No byte of the state, and no note of the host, is needed to say when it went on alone; nor do the calls need it, since from then on every message is refused.
 unfoldable pub standbyIn : State → List ℕ → ℕ → mirror.Standby
-standbyIn m rooms byItself = record { pool = poolIn m rooms; applied = sent m - byItself; alone = eqb (m .role) pool.alone }
+standbyIn m rooms byItself = record { pool = poolIn m rooms; applied = sent m - byItself; alone = eqb (m .role) roles.alone }
 
 -- bytes that are no message stand for none
 abbrev pub messageIn : Message → List ℕ → List mirror.Message

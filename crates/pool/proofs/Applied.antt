@@ -10,8 +10,8 @@ use Rattle.strip.specs.Strip.{ownChecks}
 use Rattle.strip.proofs.Good.{own-short}
 use Rattle.message.specs.declared.Message.{Message}
 use Rattle.message.specs.declared.Message.the-variants.{Adds, Takes, Acknowledges, Unreadable}
-use Rattle.master.specs.declared.State.{State}
-use Rattle.master.specs.State.{stateBytes}
+use Rattle.state.specs.declared.State.{State}
+use Rattle.state.specs.State.{stateBytes}
 use Rattle.pool.specs.Rooms.{cleared}
 use Rattle.checks.specs.Checks.{fits}
 use Rattle.pool.specs.Calls.{oneTaken, added, applied}

@@ -14,8 +14,9 @@ use Rattle.strip.specs.Strip.{ownChecks}
 use Rattle.strip.proofs.Good.{own-short}
 use Rattle.message.specs.Message.{numberBytes, frontBytes, addition, acknowledgement, readOf}
 use Rattle.message.specs.declared.Message.{Message}
-use Rattle.master.specs.declared.State.{State}
-use Rattle.master.specs.State.{stateIn, stateBytes, sent, noState, impossible, waiting, usedUp, noRoom, noneHeld, isStandby, sending, counts}
+use Rattle.state.specs.declared.State.{State}
+use Rattle.state.specs.State.{stateIn, stateBytes, sent, noState, impossible}
+use Rattle.master.specs.Master.{waiting, usedUp, noRoom, noneHeld, isStandby, sending, counts}
 use Rattle.pool.specs.Rooms.{roomAt, padded, filled, stripIn, handing, handingNone}
 use Rattle.checks.specs.Checks.{roomsSize, notLent, notLentWith, notLentOut, addChecks, takeChecks, outstandingChecks, isAcknowledgement, acknowledgeChecks, fits, isMessage, sequence, notApplied, applyChecks, goAloneChecks}
 use Rattle.pool.specs.Calls.{oneMore, oneTaken, withRole, added, taken, messageOf, settle, acknowledged, applied, answered}

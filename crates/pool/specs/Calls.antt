@@ -7,8 +7,9 @@ use Rattle.refusal.specs.Answer.{Answer, done, refused, first, choose}
 use Rattle.message.specs.Message as message
 use Rattle.message.specs.declared.Message.{Message}
 use Rattle.message.specs.declared.Message.the-variants.{Adds, Takes, Acknowledges, Unreadable}
-use Rattle.master.specs.declared.State.{State}
-use Rattle.master.specs.State.{active, adding, taking, standby, alone, stateIn, stateBytes, sent, sending, counts}
+use Rattle.state.specs.declared.State.{State}
+use Rattle.state.specs.State.{active, adding, taking, standby, alone, stateIn, stateBytes, sent}
+use Rattle.master.specs.Master.{sending, counts}
 use Rattle.pool.specs.Rooms.{roomAt, padded, filled, cleared, stripIn, handing, handingNone}
 use Rattle.checks.specs.Checks.{addChecks, takeChecks, outstandingChecks, acknowledgeChecks, sequence, applyChecks, goAloneChecks}
 

@@ -4,11 +4,11 @@ ghost use Prim.Native.Nat.{_-_, _<_};
 ghost use mathlib.Core.List.{_++_};
 ghost use lib.ListN.{length, drop};
 ghost use Rattle.message.specs.Message.{numberBytes, frontBytes, addition, acknowledgement};
-ghost use Rattle.master.specs.State.{sent};
+ghost use Rattle.state.specs.State.{sent};
 ghost use Rattle.checks.specs.Checks.{roomsSize};
 ghost use Rattle.pool.specs.Rooms.{roomAt, padded, stripIn};
 use crate::rooms;
-use master::State;
+use state::State;
 
 // A message's first twelve bytes.
 fn front_and_number(follows: u16, kind: u8, sequence: u32, number: u32) -> [u8; 12]

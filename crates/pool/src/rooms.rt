@@ -4,16 +4,16 @@ ghost use Prim.Native.Nat.{_+_, _*_, _%_, _<_, _≤_};
 ghost use lib.ListN.{length};
 ghost use Rattle.refusal.specs.Answer.{choose};
 ghost use Rattle.message.specs.Message.{numberBytes};
-ghost use Rattle.master.specs.State.{stateBytes};
+ghost use Rattle.state.specs.State.{stateBytes};
 ghost use Rattle.checks.specs.Checks.{roomsSize};
 ghost use Rattle.pool.specs.Rooms.{padded, filled, cleared, stripIn, handing, handingNone};
-use master::State;
+use state::State;
 
 pub fn write_state(role: u8, added: u32, taken: u32, state: &mut [u8])
     requires { ⌜ length (now state) ≡ 9 ⌝ }
     ensures { λ _. ⌜ now (state .exit) ≡ stateBytes (record { role = role; added = added; taken = taken }) ⌝ }
 {
-    let all = master::state_bytes(State { role, added, taken });
+    let all = state::state_bytes(State { role, added, taken });
     bytes::copy(&all, state);
 }
 

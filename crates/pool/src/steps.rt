@@ -5,14 +5,15 @@ ghost use Prim.Native.Nat.{_<_, _≤_};
 ghost use lib.ListN.{length, drop};
 ghost use Rattle.refusal.specs.Answer.{passes};
 ghost use Rattle.message.specs.Message.{readOf};
-ghost use Rattle.master.specs.State.{stateIn, stateBytes, sending, sent};
+ghost use Rattle.state.specs.State.{stateIn, stateBytes, sent};
+ghost use Rattle.master.specs.Master.{sending};
 ghost use Rattle.pool.specs.Rooms.{padded};
 ghost use Rattle.checks.specs.Checks.{roomsSize, addChecks, takeChecks, outstandingChecks, acknowledgeChecks, fits, sequence, applyChecks, goAloneChecks};
 ghost use Rattle.pool.specs.Calls.{withRole, added, taken, messageOf, settle, acknowledged, applied, answered};
 use crate::messages;
 use crate::rooms;
-use master::State;
 use message::Message;
+use state::State;
 
 // A strip is put into its room under the next number.
 fn add_next(master: State, role: u8, strip: &[u8], state: &mut [u8], rooms: &mut [u8])
@@ -28,7 +29,7 @@ pub fn add(state: &mut [u8], rooms: &mut [u8], strip: &[u8])
     requires { ⌜ passes (addChecks (now state) (length (now rooms)) (now strip)) ≡ true ⌝ }
     ensures { λ _. ⌜ (now (state .exit), now (rooms .exit)) ≡ added (stateIn (now (state .entry))) (sending (stateIn (now (state .entry))) 1) (now (rooms .entry)) (now (strip .entry)) ⌝ }
 {
-    let master = master::read(state);
+    let master = state::read(state);
     add_next(master, master::role_sending(master, 1), strip, state, rooms);
 }
 
@@ -36,7 +37,7 @@ pub fn take(state: &mut [u8], rooms: &mut [u8], number: &mut [u8], strip: &mut [
     requires { ⌜ passes (takeChecks (now state) (length (now rooms)) (length (now number)) (length (now strip))) ≡ true ⌝ }
     ensures { λ _. ⌜ (now (state .exit), (now (rooms .exit), (now (number .exit), now (strip .exit)))) ≡ taken (stateIn (now (state .entry))) (now (rooms .entry)) (now (strip .entry)) ⌝ }
 {
-    let master = master::read(state);
+    let master = state::read(state);
     let role = master::role_sending(master, 2);
     rooms::write_state(role, master.added, master.taken + 1, state);
     rooms::hand_out_if(master.role == 4, rooms, master.taken, number, strip);
@@ -46,7 +47,7 @@ pub fn outstanding(state: &[u8], rooms: &[u8], message: &mut [u8])
     requires { ⌜ passes (outstandingChecks (now state) (length (now rooms)) (length (now message))) ≡ true ⌝ }
     ensures { λ _. ⌜ now (message .exit) ≡ padded 688 (messageOf (stateIn (now (state .entry))) (now (rooms .entry))) ⌝ }
 {
-    let master = master::read(state);
+    let master = state::read(state);
     strip::zero(message);
     if master.role == 1 {
         messages::write_addition(master, rooms, message);
@@ -89,7 +90,7 @@ pub fn acknowledge(
     requires { ⌜ passes (acknowledgeChecks (now state) (length (now rooms)) (now acknowledgement) (length (now number)) (length (now strip))) ≡ true ⌝ }
     ensures { λ _. ⌜ (now (state .exit), (now (rooms .exit), (now (number .exit), now (strip .exit)))) ≡ acknowledged (now (state .entry)) (now (rooms .entry)) (sequence (readOf (now (acknowledgement .entry)))) (now (strip .entry)) ⌝ }
 {
-    let master = master::read(state);
+    let master = state::read(state);
     let sequence = checks::sequence_of(message::read(acknowledgement));
     if master::counted(master, sequence) {
         settle_state(master, state, rooms, number, strip);
@@ -120,11 +121,11 @@ pub fn apply(state: &mut [u8], rooms: &mut [u8], message: &[u8], acknowledgement
     requires { ⌜ passes (applyChecks (now state) (length (now rooms)) (now message) (length (now acknowledgement))) ≡ true ⌝ }
     ensures { λ _. ⌜ (now (state .exit), (now (rooms .exit), now (acknowledgement .exit))) ≡ answered (now (state .entry)) (now (rooms .entry)) (readOf (now (message .entry))) (drop 12 (now (message .entry))) ⌝ }
 {
-    let master = master::read(state);
+    let master = state::read(state);
     let asked = message::read(message);
     let sequence = checks::sequence_of(asked);
     messages::write_acknowledgement(sequence, acknowledgement);
-    if master::sent(master) < master::wide(sequence) {
+    if state::sent(master) < state::wide(sequence) {
         apply_next(master, asked, message, state, rooms);
     }
 }
@@ -133,6 +134,6 @@ pub fn go_alone(state: &mut [u8])
     requires { ⌜ passes (goAloneChecks (now state)) ≡ true ⌝ }
     ensures { λ _. ⌜ now (state .exit) ≡ stateBytes (withRole (stateIn (now (state .entry))) 4) ⌝ }
 {
-    let master = master::read(state);
+    let master = state::read(state);
     rooms::write_state(4, master.added, master.taken, state);
 }

@@ -1,6 +1,6 @@
 -- `pool::messages::write_acknowledgement` meets its contract: from the eight bytes, copied over all of the part. Assumes nothing.
 use Rattle.pool.proofs.Promise.{acknowledgement-length}
-use Rattle.master.proofs.Laws.{copied}
+use Rattle.message.proofs.Laws.{copied}
 use native.Mathlib.Omega.{arith}
 use borrow.Author.Needs.{needs}
 use Rattle.pool.proofs.messages.write_acknowledgement.Statement.{statement}

@@ -1,7 +1,7 @@
 -- `pool::rooms::write_number` meets its contract: from the four bytes, copied over all of the part. Assumes nothing.
 use native.Mathlib.Omega.{arith}
 use borrow.Author.Needs.{needs}
-use Rattle.master.proofs.Laws.{copied, number-length}
+use Rattle.message.proofs.Laws.{copied, number-length}
 use Rattle.pool.proofs.rooms.write_number.Statement.{statement}
 use Rattle.pool.proofs.rooms.write_number.Tie as tie
 

@@ -1,5 +1,6 @@
 -- `pool::rooms::write_state` meets its contract: from the nine bytes, copied over all of the part. Assumes nothing.
-use Rattle.master.proofs.Laws.{copied, state-length}
+use Rattle.message.proofs.Laws.{copied}
+use Rattle.state.proofs.Laws.{state-length}
 use native.Mathlib.Omega.{arith}
 use borrow.Author.Needs.{needs}
 use Rattle.pool.proofs.rooms.write_state.Statement.{statement}

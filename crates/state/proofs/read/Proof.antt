@@ -1,9 +1,9 @@
--- `master::read` meets its contract: from the bytes read. Assumes nothing.
+-- `state::read` meets its contract: from the bytes read. Assumes nothing.
 use mathlib.Core.Path.{refl}
 use borrow.Author.Needs.{needs}
-use Rattle.master.specs.State.{stateIn}
-use Rattle.master.proofs.read.Statement.{statement}
-use Rattle.master.proofs.read.Tie as tie
+use Rattle.state.specs.State.{stateIn}
+use Rattle.state.proofs.read.Statement.{statement}
+use Rattle.state.proofs.read.Tie as tie
 
 byte-at-requires : tie.Need-byte-at-requires
 byte-at-requires c κs = search needs

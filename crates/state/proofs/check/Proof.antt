@@ -1,8 +1,8 @@
--- `master::check` meets its contract: from the length and the counts. Assumes nothing.
+-- `state::check` meets its contract: from the length and the counts. Assumes nothing.
 use borrow.Author.Needs.{needs}
-use Rattle.master.proofs.Laws.{not-nine, nine}
-use Rattle.master.proofs.check.Statement.{statement}
-use Rattle.master.proofs.check.Tie as tie
+use Rattle.state.proofs.Laws.{not-nine, nine}
+use Rattle.state.proofs.check.Statement.{statement}
+use Rattle.state.proofs.check.Tie as tie
 
 check-length-requires : tie.Need-check-length-requires
 check-length-requires c κs = search needs

@@ -1,8 +1,8 @@
--- `master::check_sent` meets its contract: by the role. Assumes nothing.
+-- `state::check_sent` meets its contract: by the role. Assumes nothing.
 use native.Mathlib.Omega.{arith}
-use Rattle.master.proofs.Laws.{added-none, added-one, taken-none, taken-one, sent-none}
-use Rattle.master.proofs.check_sent.Statement.{statement}
-use Rattle.master.proofs.check_sent.Tie as tie
+use Rattle.state.proofs.Laws.{added-none, added-one, taken-none, taken-one, sent-none}
+use Rattle.state.proofs.check_sent.Statement.{statement}
+use Rattle.state.proofs.check_sent.Tie as tie
 
 returns : tie.Need-returns
 returns c = added-none _ (omega arith) (omega arith)

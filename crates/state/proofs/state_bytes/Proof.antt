@@ -1,10 +1,10 @@
--- `master::state_bytes` meets its contract: from the bytes of both numbers. Assumes nothing.
+-- `state::state_bytes` meets its contract: from the bytes of both numbers. Assumes nothing.
 use mathlib.Core.Path.{refl}
 use borrow.Author.Needs.{needs}
 use Rattle.message.specs.Message.{numberBytes}
-use Rattle.master.specs.State.{stateBytes}
-use Rattle.master.proofs.state_bytes.Statement.{statement}
-use Rattle.master.proofs.state_bytes.Tie as tie
+use Rattle.state.specs.State.{stateBytes}
+use Rattle.state.proofs.state_bytes.Statement.{statement}
+use Rattle.state.proofs.state_bytes.Tie as tie
 
 number-bytes-requires : tie.Need-number-bytes-requires
 number-bytes-requires c κs = search needs

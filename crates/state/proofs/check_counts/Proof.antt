@@ -1,10 +1,10 @@
--- `master::check_counts` meets its contract: from one condition after the other. Assumes nothing.
+-- `state::check_counts` meets its contract: from one condition after the other. Assumes nothing.
 use native.Mathlib.Omega.{arith}
 use borrow.Author.Needs.{needs}
 use Rattle.refusal.proofs.First.{either-first, either-second}
-use Rattle.master.proofs.Laws.{no-role, overtaken, overfull, rest-decides}
-use Rattle.master.proofs.check_counts.Statement.{statement}
-use Rattle.master.proofs.check_counts.Tie as tie
+use Rattle.state.proofs.Laws.{no-role, overtaken, overfull, rest-decides}
+use Rattle.state.proofs.check_counts.Statement.{statement}
+use Rattle.state.proofs.check_counts.Tie as tie
 
 returns : tie.Need-returns
 returns c = no-role _ (omega arith)

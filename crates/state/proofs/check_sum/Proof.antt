@@ -1,9 +1,9 @@
--- `master::check_sum` meets its contract: by the role and the sum. Assumes nothing.
-use Rattle.master.proofs.Laws.{sum-alone, sum-high, sum-low}
+-- `state::check_sum` meets its contract: by the role and the sum. Assumes nothing.
+use Rattle.state.proofs.Laws.{sum-alone, sum-high, sum-low}
 use native.Mathlib.Omega.{arith}
 use borrow.Author.Needs.{needs}
-use Rattle.master.proofs.check_sum.Statement.{statement}
-use Rattle.master.proofs.check_sum.Tie as tie
+use Rattle.state.proofs.check_sum.Statement.{statement}
+use Rattle.state.proofs.check_sum.Tie as tie
 
 returns : tie.Need-returns
 returns c = sum-alone _ (omega arith)

@@ -1,12 +1,12 @@
--- A master's state: nine bytes that the host keeps. Which states a run of calls can make, and which refusals a state alone decides.
+-- A master's state: nine bytes that the host keeps, and which states a run of calls can make.
 use Prim.Native.Nat.{ℕ, _+_, _-_}
 use mathlib.Core.List.{List, _∷_, _++_}
 use mathlib.Core.Bool.{Bool}
 use lib.ListN.{length, getD}
-use lib.Dec.{eqb, ltb, leb}
+use lib.Dec.{eqb, ltb}
 use Rattle.refusal.specs.Answer.{choose, above, either, both, isNot}
 use Rattle.message.specs.Message.{numberBytes, numberAt}
-use Rattle.master.specs.declared.State.{State}
+use Rattle.state.specs.declared.State.{State}
 
 -- the roles: an active master with nothing outstanding, with an addition, with a taking outstanding; a standby; one that goes on alone
 abbrev pub active : ℕ
@@ -57,31 +57,3 @@ impossible m = either (above alone (m .role)) (either (ltb (m .added) (m .taken)
 -- 6: the state is not lent as nine bytes, or is none that calls make
 unfoldable pub noState : List ℕ → Bool
 noState l = either (isNot 9 (length l)) (impossible (stateIn l))
-
--- 23 "while an acknowledgement is outstanding"
-unfoldable pub waiting : State → Bool
-waiting m = either (eqb (m .role) adding) (eqb (m .role) taking)
-
--- 24 "when sequence numbers are used up"; alone it falls away
-unfoldable pub usedUp : State → Bool
-usedUp m = both (isNot alone (m .role)) (leb most (sent m))
-
--- 14 "exactly when 64 are held or strip numbers are used up"
-unfoldable pub noRoom : State → Bool
-noRoom m = either (leb 64 (m .added - m .taken)) (leb most (m .added))
-
--- 15 "exactly when none is held"
-unfoldable pub noneHeld : State → Bool
-noneHeld m = leb (m .added) (m .taken)
-
--- a standby that has not gone on alone
-unfoldable pub isStandby : State → Bool
-isStandby m = eqb (m .role) standby
-
--- what is sent is outstanding from then on; alone, nothing is sent
-unfoldable pub sending : State → ℕ → ℕ
-sending m kind = choose (eqb (m .role) alone) alone kind
-
--- "only the acknowledgement of its number counts"
-unfoldable pub counts : State → ℕ → Bool
-counts m k = both (waiting m) (eqb k (sent m))

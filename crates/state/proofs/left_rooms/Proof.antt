@@ -1,10 +1,10 @@
--- `master::left_rooms` meets its contract: by the role. Assumes nothing.
+-- `state::left_rooms` meets its contract: by the role. Assumes nothing.
 use mathlib.Core.Path.{refl}
 use native.Mathlib.Omega.{arith}
 use borrow.Author.Needs.{needs}
-use Rattle.master.proofs.Laws.{gone-other, gone-taking}
-use Rattle.master.proofs.left_rooms.Statement.{statement}
-use Rattle.master.proofs.left_rooms.Tie as tie
+use Rattle.state.proofs.Laws.{gone-other, gone-taking}
+use Rattle.state.proofs.left_rooms.Statement.{statement}
+use Rattle.state.proofs.left_rooms.Tie as tie
 
 returns : tie.Need-returns
 returns c = gone-other _ (λ x. omega arith)

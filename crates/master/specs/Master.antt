@@ -1,0 +1,35 @@
+-- What a master's state decides by itself: which refusals it gives, its role once it sends, and which acknowledgement counts.
+use Prim.Native.Nat.{ℕ, _-_}
+use mathlib.Core.Bool.{Bool}
+use lib.Dec.{eqb, leb}
+use Rattle.refusal.specs.Answer.{choose, either, both, isNot}
+use Rattle.state.specs.declared.State.{State}
+use Rattle.state.specs.State.{adding, taking, standby, alone, most, sent}
+
+-- 23 "while an acknowledgement is outstanding"
+unfoldable pub waiting : State → Bool
+waiting m = either (eqb (m .role) adding) (eqb (m .role) taking)
+
+-- 24 "when sequence numbers are used up"; alone it falls away
+unfoldable pub usedUp : State → Bool
+usedUp m = both (isNot alone (m .role)) (leb most (sent m))
+
+-- 14 "exactly when 64 are held or strip numbers are used up"
+unfoldable pub noRoom : State → Bool
+noRoom m = either (leb 64 (m .added - m .taken)) (leb most (m .added))
+
+-- 15 "exactly when none is held"
+unfoldable pub noneHeld : State → Bool
+noneHeld m = leb (m .added) (m .taken)
+
+-- a standby that has not gone on alone
+unfoldable pub isStandby : State → Bool
+isStandby m = eqb (m .role) standby
+
+-- what is sent is outstanding from then on; alone, nothing is sent
+unfoldable pub sending : State → ℕ → ℕ
+sending m kind = choose (eqb (m .role) alone) alone kind
+
+-- "only the acknowledgement of its number counts"
+unfoldable pub counts : State → ℕ → Bool
+counts m k = both (waiting m) (eqb k (sent m))
