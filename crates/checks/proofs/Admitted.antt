@@ -1,13 +1,14 @@
 -- The checks of the calls: what they answer, and what a call may rely on when all have passed. Assumes nothing.
 use Prim.Native.Nat.{ℕ, _+_, _≤_, _<_}
+use native.Mathlib.Omega.{arith}
 use mathlib.Core.Path.{_≡_, refl, sym, ap, _∙_}
 use mathlib.Core.List.{List, [], _∷_, _++_}
 use mathlib.Core.Bool.{Bool, true, false}
 use lib.ListN.{length}
-use lib.Dec.{ltb}
-use borrow.Author.Tests.{ltb-false, lt-ltb, le-ltb, ne-eqb}
+use lib.Dec.{eqb, ltb}
+use borrow.Author.Tests.{ltb-false, eqb-false, lt-ltb, le-ltb, eq-eqb, ne-eqb}
 use Rattle.refusal.specs.Refusal.{refusal, failed}
-use Rattle.refusal.specs.Answer.{Answer, done, refused, first, above, either, isNot, outcome}
+use Rattle.refusal.specs.Answer.{Answer, done, refused, first, above, either, both, isNot, outcome}
 use Rattle.refusal.specs.declared.Refusal.{Refusal}
 use Rattle.refusal.specs.declared.Check.{Check}
 use Rattle.refusal.specs.declared.Check.the-variants.{Passed, Failed}
@@ -18,7 +19,8 @@ use Rattle.strip.specs.Strip.{ownChecks, ownFormOf}
 use Rattle.state.specs.declared.State.{State}
 use Rattle.state.specs.State.{stateIn, gone, neverSent, sentTooMuch, impossible, noState}
 use Rattle.master.specs.Master.{waiting, usedUp, noRoom, noneHeld, isStandby}
-use Rattle.checks.specs.Checks.{roomsSize, notLent, notLentWith, notLentOut, goAloneChecks}
+use Rattle.rooms.specs.Rooms.{roomsSize}
+use Rattle.checks.specs.Checks.{notLent, notLentWith, notLentOut, goAloneChecks}
 use Rattle.checks.specs.Inner.{senderOf}
 
 -- ---- what a lent state and lent rooms are
@@ -27,6 +29,8 @@ pub record Lent (st : List ℕ) (rooms : ℕ) : Type 0 where
   pub sized : rooms ≡ roomsSize
   -- a master that sends has a sum of 32 bits
   pub counted : (stateIn st .role ≡ 4 → ⊥) → stateIn st .added + stateIn st .taken ≤ 4294967295
+  -- and one whose addition is outstanding has added
+  pub begun : stateIn st .role ≡ 1 → 0 < stateIn st .added
 
 pub lent-is : (st : List ℕ) (rooms : ℕ) → notLent st rooms ≡ false → Lent st rooms
 unfolding notLent noState impossible sentTooMuch neverSent
@@ -38,10 +42,12 @@ lent-is st rooms e =
     let q = neither (ltb (m .added) (m .taken)) _ (p .1) in
     let r = neither (above (gone m + 64) (m .added)) _ (q .1) in
     let s = neither (neverSent m) (sentTooMuch m) (r .1) in
+    let t = neither (both (eqb (m .role) 1) (eqb (m .added) (m .taken))) _ (s .0) .0 in
     record {
       nine = passed-is 9 (length st) Passed (sym (o .0)) refl;
       sized = passed-is roomsSize rooms Passed (sym (n .1)) refl;
       counted = λ h. ltb-false 4294967295 (m .added + m .taken) (let u : isNot 4 (m .role) ≡ true = rw (ne-eqb (m .role) 4 h) refl in sym (rw u refl) ∙ s .1);
+      begun = λ h. let other : m .added ≡ m .taken → ⊥ = eqb-false (m .added) (m .taken) (sym (rw (eq-eqb (m .role) 1 h) refl) ∙ t) in omega (arith, other, ltb-false (m .added) (m .taken) (q .0));
     }
 
 pub lent-with : (size : ℕ) (st : List ℕ) (rooms part : ℕ) → notLentWith size st rooms part ≡ false → Lent st rooms × (part ≡ size)

@@ -1,21 +1,18 @@
 -- What each call of a pool refuses, in request §8's order: the numbers, each with whether it applies.
-use Prim.Native.Nat.{ℕ, suc, _-_, _*_}
+use Prim.Native.Nat.{ℕ, suc, _-_}
 use mathlib.Core.List.{List, [], _∷_, _++_}
 use mathlib.Core.Bool.{Bool, true, false, not}
 use lib.ListN.{drop}
 use lib.Dec.{eqb, ltb}
 use Rattle.refusal.specs.Answer.{passes, either, both, isNot}
 use Rattle.strip.specs.Strip.{ownChecks}
+use Rattle.rooms.specs.Rooms.{roomsSize}
 use Rattle.message.specs.Message.{readOf}
 use Rattle.message.specs.declared.Message.{Message}
 use Rattle.message.specs.declared.Message.the-variants.{Adds, Takes, Acknowledges, Unreadable}
 use Rattle.state.specs.declared.State.{State}
 use Rattle.state.specs.State.{standby, stateIn, sent, noState}
 use Rattle.master.specs.Master.{waiting, usedUp, noRoom, noneHeld, isStandby}
-
--- 64 rooms of 676 bytes
-abbrev pub roomsSize : ℕ
-roomsSize = 64 * 676
 
 -- 6: state or rooms not lent as they must be; or a further part not of its size; for a strip handed out, its number not as four bytes or the strip not as 676
 unfoldable pub notLent : List ℕ → ℕ → Bool

@@ -24,9 +24,10 @@ use Rattle.state.specs.State as roles
 use Rattle.master.specs.Master as master
 use Rattle.state.specs.State.{most, stateIn, stateBytes, sent, gone}
 use Rattle.master.specs.Master.{usedUp, sending, counts}
-use Rattle.pool.specs.Rooms.{roomAt, padded, filled, cleared, stripIn, handing, handingNone}
+use Rattle.rooms.specs.Rooms.{roomAt, padded, filled, cleared, stripIn, handing, handingNone}
 use Rattle.checks.specs.Checks.{addChecks, takeChecks, isAcknowledgement}
-use Rattle.pool.specs.Calls.{oneMore, oneTaken, withRole, addOf, takeOf, acknowledgeOf, settle, messageOf, outstandingOf}
+use Rattle.sending.specs.Outstanding.{messageOf, outstandingOf}
+use Rattle.pool.specs.Calls.{oneMore, oneTaken, withRole, addOf, takeOf, acknowledgeOf, settle}
 use Rattle.pair.specs.Pair.{Cabinet, afterAdd, afterHanding, add, takeOut, acknowledge, sentIn, outstanding, poolIn, outIn, activeIn, messageIn, numberIn, messagesIn}
 use Rattle.pair.specs.Claims.{Messages}
 use Rattle.pair.proofs.Rooms.{Filled, first-cleared}

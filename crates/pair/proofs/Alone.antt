@@ -21,7 +21,7 @@ use Rattle.state.specs.State as roles
 use Rattle.master.specs.Master as master
 use Rattle.state.specs.State.{stateIn, stateBytes, sent}
 use Rattle.master.specs.Master.{usedUp, sending}
-use Rattle.pool.specs.Rooms.{roomAt, filled, cleared, stripIn, handing, handingNone}
+use Rattle.rooms.specs.Rooms.{roomAt, filled, cleared, stripIn, handing, handingNone}
 use Rattle.checks.specs.Checks.{addChecks, takeChecks}
 use Rattle.pool.specs.Calls.{oneMore, oneTaken, withRole, addOf, takeOf, goAloneOf}
 use Rattle.pair.specs.Pair.{Cabinet, afterAdd, afterHanding, afterAlone, add, takeOut, goAlone, poolIn, standbyIn}

@@ -19,7 +19,7 @@ use Rattle.message.proofs.Laws.{adds}
 use Rattle.message.specs.declared.Message.the-variants.{Adds, Takes, Acknowledges}
 use Rattle.state.specs.declared.State.{State}
 use Rattle.state.specs.State.{most, stateIn, stateBytes}
-use Rattle.pool.specs.Rooms.{padded, stripIn}
+use Rattle.rooms.specs.Rooms.{padded, stripIn}
 use Rattle.pair.specs.Pair.{sentIn}
 
 -- ---- numbers

@@ -18,7 +18,7 @@ use Rattle.state.specs.declared.State.{State}
 use Rattle.state.specs.State as roles
 use Rattle.master.specs.Master as master
 use Rattle.state.specs.State.{most, stateIn, stateBytes, sent, gone, neverSent, sentTooMuch, impossible, noState}
-use Rattle.pool.specs.Rooms.{roomAt, filled, cleared, stripIn}
+use Rattle.rooms.specs.Rooms.{roomAt, filled, cleared, stripIn}
 use Rattle.checks.specs.Checks.{notLent, notLentWith, notLentOut}
 use Rattle.pool.specs.Calls.{oneMore, oneTaken}
 use Rattle.pair.specs.Pair.{Cabinet, handedIn, heldIn, poolIn}

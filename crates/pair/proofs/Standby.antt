@@ -22,7 +22,7 @@ use Rattle.mirror.specs.Mirror.{Said, Checks}
 use Rattle.state.specs.declared.State.{State}
 use Rattle.state.specs.State as roles
 use Rattle.state.specs.State.{most, stateIn, stateBytes, sent}
-use Rattle.pool.specs.Rooms.{filled, cleared}
+use Rattle.rooms.specs.Rooms.{filled, cleared}
 use Rattle.checks.specs.Checks as checks
 use Rattle.pool.specs.Calls as calls
 use Rattle.checks.specs.Checks.{isMessage}

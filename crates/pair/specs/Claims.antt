@@ -11,7 +11,7 @@ use Rattle.mirror.specs.Mirror as mirror
 use Rattle.mirror.specs.Mirror.{Rules, paper, World, Event, after, sequence}
 use Rattle.mirror.specs.Claims.{All, Safe}
 use Rattle.state.specs.State.{most, stateIn, gone, noState}
-use Rattle.pool.specs.Rooms.{roomAt}
+use Rattle.rooms.specs.Rooms.{roomAt}
 use Rattle.pair.specs.Pair.{Cabinet, Cabinets, add, takeOut, acknowledge, apply, goAlone, outstanding, ran, messageIn, numberIn, messagesIn, standsFor}
 
 -- the rules of request §8, with a strip's own checks

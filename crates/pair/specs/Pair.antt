@@ -14,9 +14,10 @@ use Rattle.mirror.specs.Mirror.{Strips, Said, Event, adds-strip, takes-strip, s
 use Rattle.state.specs.declared.State.{State}
 use Rattle.state.specs.State as roles
 use Rattle.state.specs.State.{stateIn, sent}
-use Rattle.checks.specs.Checks.{roomsSize}
-use Rattle.pool.specs.Rooms.{roomAt, stripIn}
-use Rattle.pool.specs.Calls.{addOf, takeOf, outstandingOf, acknowledgeOf, applyOf, goAloneOf}
+use Rattle.rooms.specs.Rooms.{roomsSize}
+use Rattle.rooms.specs.Rooms.{roomAt, stripIn}
+use Rattle.sending.specs.Outstanding.{outstandingOf}
+use Rattle.pool.specs.Calls.{addOf, takeOf, acknowledgeOf, applyOf, goAloneOf}
 
 -- what the host of a master keeps for it, as bytes
 pub record Cabinet : Type 0 where

@@ -124,7 +124,7 @@ pub fn outstanding(master: Master) -> Master {
     let state = master.state;
     let rooms = master.rooms;
     let mut item = [0u8; 688];
-    let answer = pool::outstanding(&state, &rooms, &mut item);
+    let answer = sending::outstanding(&state, &rooms, &mut item);
     let mut next = master;
     next.answer = refusal::outcome_number(answer);
     next.item = item;

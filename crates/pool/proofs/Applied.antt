@@ -12,7 +12,7 @@ use Rattle.message.specs.declared.Message.{Message}
 use Rattle.message.specs.declared.Message.the-variants.{Adds, Takes, Acknowledges, Unreadable}
 use Rattle.state.specs.declared.State.{State}
 use Rattle.state.specs.State.{stateBytes}
-use Rattle.pool.specs.Rooms.{cleared}
+use Rattle.rooms.specs.Rooms.{cleared}
 use Rattle.checks.specs.Checks.{fits}
 use Rattle.pool.specs.Calls.{oneTaken, added, applied}
 use Rattle.checks.proofs.Fits.{whole-strip}

@@ -1,27 +1,26 @@
 -- What each step may rely on where no check applies, and what it leaves. Assumes nothing.
 use Prim.Native.Nat.{ℕ, _+_, suc, _-_, _<_, _≤_}
 use native.Mathlib.Omega.{arith}
-use mathlib.Core.Path.{_≡_, refl, sym, subst, ap, _∙_}
-use mathlib.Core.List.{List, [], _∷_, _++_}
+use mathlib.Core.Path.{_≡_, refl, sym, subst, _∙_}
+use mathlib.Core.List.{List, [], _∷_}
 use mathlib.Core.Bool.{Bool, true, false, not}
-use lib.ListN.{length, drop, replicate, length-replicate}
+use lib.ListN.{length, drop}
 use lib.Dec.{eqb, ltb, leb}
-use borrow.Author.Tests.{leb-false, ltb-false, le-leb, lt-leb, eq-eqb, ne-eqb, not-false}
+use borrow.Author.Tests.{leb-false, ltb-false, le-leb, lt-leb, eq-eqb, not-false}
 use Rattle.refusal.specs.Answer.{choose, either, isNot, passes}
 use Rattle.refusal.specs.declared.Check.the-variants.{Passed}
 use Rattle.refusal.proofs.First.{neither, passed-is, passes-first, passes-both}
 use Rattle.strip.specs.Strip.{ownChecks}
 use Rattle.strip.proofs.Good.{own-short}
-use Rattle.message.specs.Message.{numberBytes, frontBytes, addition, acknowledgement, readOf}
+use Rattle.message.specs.Message.{numberBytes, frontBytes, acknowledgement, readOf}
 use Rattle.message.specs.declared.Message.{Message}
 use Rattle.state.specs.declared.State.{State}
 use Rattle.state.specs.State.{stateIn, stateBytes, sent, noState, impossible}
 use Rattle.master.specs.Master.{waiting, usedUp, noRoom, noneHeld, isStandby, sending, counts}
-use Rattle.pool.specs.Rooms.{roomAt, padded, filled, stripIn, handing, handingNone}
-use Rattle.checks.specs.Checks.{roomsSize, notLent, notLentWith, notLentOut, addChecks, takeChecks, outstandingChecks, isAcknowledgement, acknowledgeChecks, fits, isMessage, sequence, notApplied, applyChecks, goAloneChecks}
-use Rattle.pool.specs.Calls.{oneMore, oneTaken, withRole, added, taken, messageOf, settle, acknowledged, applied, answered}
-use Rattle.pool.proofs.Places.{taking-is, none-is}
-use Rattle.checks.proofs.Admitted.{Lent, lent-is, lent-with, LentOut, lent-out-is}
+use Rattle.rooms.specs.Rooms.{roomsSize, filled, handing, handingNone}
+use Rattle.checks.specs.Checks.{notLent, notLentWith, notLentOut, addChecks, takeChecks, isAcknowledgement, acknowledgeChecks, fits, isMessage, sequence, notApplied, applyChecks, goAloneChecks}
+use Rattle.pool.specs.Calls.{oneMore, oneTaken, withRole, added, taken, settle, acknowledged, applied, answered}
+use Rattle.checks.proofs.Admitted.{lent-is, lent-with, LentOut, lent-out-is}
 
 -- ---- adding
 pub added-so : (m : State) (role : ℕ) (rooms s st′ rooms′ : List ℕ) → st′ ≡ stateBytes (record { role = role; added = m .added + 1; taken = m .taken }) → rooms′ ≡ filled rooms (m .added) s → (st′, rooms′) ≡ added m role rooms s
@@ -70,36 +69,6 @@ module _ (st rooms number strip : List ℕ) (p : passes (takeChecks st (length r
       → lent′ ≡ choose (eqb (m .role) 4) (handing rooms (m .taken)) (handingNone rooms strip) → (st′, lent′) ≡ taken (stateIn st) rooms strip
   unfolding oneTaken
   take-done role st′ lent′ q t u = rw (t, q, u, h) refl
-
--- ---- the outstanding message
-module _ (st rooms out : List ℕ) (p : passes (outstandingChecks st (length rooms) (length out)) ≡ true) (m : State) (h : m ≡ stateIn st) where
-  lent-out : Lent st (length rooms) × (length out ≡ 688)
-  lent-out = lent-with 688 st (length rooms) (length out) (passes-first 6 (notLentWith 688 st (length rooms) (length out)) [] p .0)
-
-  pub out-sum : (m .role ≡ 4 → ⊥) → sent m ≤ 4294967295
-  out-sum = subst (λ (m : State). (m .role ≡ 4 → ⊥) → sent m ≤ 4294967295) (sym h) (lent-out .0 .counted)
-
-  pub out-rooms : length rooms ≡ roomsSize
-  out-rooms = lent-out .0 .sized
-
-  module _ (z : List ℕ) (i : z ≡ replicate (length out) 0) where
-    pub out-zeroed : length z ≡ 688
-    out-zeroed = ap length i ∙ length-replicate (length out) 0 ∙ lent-out .1
-
-    zeros : z ≡ replicate 688 0
-    zeros = i ∙ ap (λ (n : ℕ). replicate n 0) (lent-out .1)
-
-    pub out-taking : (new : List ℕ) → m .role ≡ 2 → new ≡ (frontBytes 10 2 (sent m) ++ numberBytes (m .taken)) ++ drop 12 z → new ≡ padded 688 (messageOf (stateIn st) rooms)
-    unfolding messageOf
-    out-taking new y w = rw (← h, ne-eqb (m .role) 1 (λ x. omega arith), eq-eqb (m .role) 2 y) (taking-is (sent m) (m .taken) z new zeros w)
-
-    pub out-none : (m .role ≡ 1 → ⊥) → (m .role ≡ 2 → ⊥) → z ≡ padded 688 (messageOf (stateIn st) rooms)
-    unfolding messageOf
-    out-none x y = rw (← h, ne-eqb (m .role) 1 x, ne-eqb (m .role) 2 y) (none-is z zeros)
-
-  pub out-adding : (new : List ℕ) → m .role ≡ 1 → new ≡ padded 688 (addition (sent m) (m .added) (stripIn (roomAt rooms (m .added - 1)))) → new ≡ padded 688 (messageOf (stateIn st) rooms)
-  unfolding messageOf
-  out-adding new y w = rw (← h, eq-eqb (m .role) 1 y) w
 
 -- ---- an acknowledgement
 pub settled : (m : State) (rooms strip st′ : List ℕ) (n : ℕ) (lent : List ℕ × (List ℕ × List ℕ)) → st′ ≡ stateBytes (record { role = 0; added = m .added; taken = m .taken }) → n ≡ m .taken - 1

@@ -1,6 +1,6 @@
 -- What each call of a pool answers and leaves, for every state, all rooms and any bytes, as request §8 has it.
 use Prim.Native.Nat.{ℕ, _+_, _-_}
-use mathlib.Core.List.{List, []}
+use mathlib.Core.List.{List}
 use lib.ListN.{length, drop}
 use lib.Dec.{eqb, leb}
 use Rattle.refusal.specs.Answer.{Answer, done, refused, first, choose}
@@ -10,8 +10,8 @@ use Rattle.message.specs.declared.Message.the-variants.{Adds, Takes, Acknowledg
 use Rattle.state.specs.declared.State.{State}
 use Rattle.state.specs.State.{active, adding, taking, standby, alone, stateIn, stateBytes, sent}
 use Rattle.master.specs.Master.{sending, counts}
-use Rattle.pool.specs.Rooms.{roomAt, padded, filled, cleared, stripIn, handing, handingNone}
-use Rattle.checks.specs.Checks.{addChecks, takeChecks, outstandingChecks, acknowledgeChecks, sequence, applyChecks, goAloneChecks}
+use Rattle.rooms.specs.Rooms.{filled, cleared, handing, handingNone}
+use Rattle.checks.specs.Checks.{addChecks, takeChecks, acknowledgeChecks, sequence, applyChecks, goAloneChecks}
 
 -- a master after one more addition, after one more taking, and only in another role
 unfoldable pub oneMore : State → ℕ → State
@@ -41,16 +41,6 @@ unfoldable pub takeOf : List ℕ → List ℕ → List ℕ → List ℕ → Answ
 takeOf st rooms number strip =
     first (takeChecks st (length rooms) (length number) (length strip)) (λ r. (refused r, (st, (rooms, (number, strip)))))
     (done tt, taken (stateIn st) rooms strip)
-
--- ---- the outstanding message, zeros behind it; all zeros where none is
-unfoldable pub messageOf : State → List ℕ → List ℕ
-messageOf m rooms =
-    choose (eqb (m .role) adding) (message.addition (sent m) (m .added) (stripIn (roomAt rooms (m .added - 1))))
-    (choose (eqb (m .role) taking) (message.taking (sent m) (m .taken)) [])
-
-unfoldable pub outstandingOf : List ℕ → List ℕ → List ℕ → Answer (Unit {0}) × List ℕ
-outstandingOf st rooms out =
-    first (outstandingChecks st (length rooms) (length out)) (λ r. (refused r, out)) (done tt, padded 688 (messageOf (stateIn st) rooms))
 
 -- ---- "only the acknowledgement of its number counts"; one of a taking hands the strip out
 unfoldable pub settle : State → List ℕ → List ℕ → List ℕ × (List ℕ × (List ℕ × List ℕ))

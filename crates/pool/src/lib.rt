@@ -1,11 +1,10 @@
 // The mirrored pool of strips: a state of nine bytes and 64 rooms, both lent by the host, and the calls of an active master and its standby.
-mod messages;
-mod rooms;
+mod parts;
 mod steps;
 
 ghost use mathlib.Core.Path.{_≡_};
 ghost use Rattle.refusal.specs.Answer.{outcome};
-ghost use Rattle.pool.specs.Calls.{addOf, takeOf, outstandingOf, acknowledgeOf, applyOf, goAloneOf};
+ghost use Rattle.pool.specs.Calls.{addOf, takeOf, acknowledgeOf, applyOf, goAloneOf};
 use refusal::Outcome;
 
 // A strip is added under the next number, and its message is outstanding.
@@ -27,18 +26,6 @@ pub fn take(state: &mut [u8], rooms: &mut [u8], number: &mut [u8], strip: &mut [
     let checked = checks::take(state, rooms.len(), number.len(), strip.len());
     match checked {
         Outcome::Done => steps::take(state, rooms, number, strip),
-        Outcome::Refused(_) => {}
-    }
-    checked
-}
-
-// The message that is outstanding, as often as it is asked for.
-pub fn outstanding(state: &[u8], rooms: &[u8], message: &mut [u8]) -> Outcome
-    ensures { λ r. ⌜ (outcome r, now (message .exit)) ≡ outstandingOf (now (state .entry)) (now (rooms .entry)) (now (message .entry)) ⌝ }
-{
-    let checked = checks::outstanding(state, rooms.len(), message.len());
-    match checked {
-        Outcome::Done => steps::outstanding(state, rooms, message),
         Outcome::Refused(_) => {}
     }
     checked

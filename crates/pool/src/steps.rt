@@ -7,11 +7,10 @@ ghost use Rattle.refusal.specs.Answer.{passes};
 ghost use Rattle.message.specs.Message.{readOf};
 ghost use Rattle.state.specs.State.{stateIn, stateBytes, sent};
 ghost use Rattle.master.specs.Master.{sending};
-ghost use Rattle.pool.specs.Rooms.{padded};
-ghost use Rattle.checks.specs.Checks.{roomsSize, addChecks, takeChecks, outstandingChecks, acknowledgeChecks, fits, sequence, applyChecks, goAloneChecks};
-ghost use Rattle.pool.specs.Calls.{withRole, added, taken, messageOf, settle, acknowledged, applied, answered};
-use crate::messages;
-use crate::rooms;
+ghost use Rattle.rooms.specs.Rooms.{roomsSize};
+ghost use Rattle.checks.specs.Checks.{addChecks, takeChecks, acknowledgeChecks, fits, sequence, applyChecks, goAloneChecks};
+ghost use Rattle.pool.specs.Calls.{withRole, added, taken, settle, acknowledged, applied, answered};
+use crate::parts;
 use message::Message;
 use state::State;
 
@@ -21,8 +20,8 @@ fn add_next(master: State, role: u8, strip: &[u8], state: &mut [u8], rooms: &mut
     requires { ⌜ (length (now strip) ≤ 676) × (master .added < 4294967295) ⌝ }
     ensures { λ _. ⌜ (now (state .exit), now (rooms .exit)) ≡ added master role (now (rooms .entry)) (now (strip .entry)) ⌝ }
 {
-    rooms::put(rooms, master.added, strip);
-    rooms::write_state(role, master.added + 1, master.taken, state);
+    parts::put(rooms, master.added, strip);
+    parts::write_state(role, master.added + 1, master.taken, state);
 }
 
 pub fn add(state: &mut [u8], rooms: &mut [u8], strip: &[u8])
@@ -39,23 +38,8 @@ pub fn take(state: &mut [u8], rooms: &mut [u8], number: &mut [u8], strip: &mut [
 {
     let master = state::read(state);
     let role = master::role_sending(master, 2);
-    rooms::write_state(role, master.added, master.taken + 1, state);
-    rooms::hand_out_if(master.role == 4, rooms, master.taken, number, strip);
-}
-
-pub fn outstanding(state: &[u8], rooms: &[u8], message: &mut [u8])
-    requires { ⌜ passes (outstandingChecks (now state) (length (now rooms)) (length (now message))) ≡ true ⌝ }
-    ensures { λ _. ⌜ now (message .exit) ≡ padded 688 (messageOf (stateIn (now (state .entry))) (now (rooms .entry))) ⌝ }
-{
-    let master = state::read(state);
-    strip::zero(message);
-    if master.role == 1 {
-        messages::write_addition(master, rooms, message);
-        return;
-    }
-    if master.role == 2 {
-        messages::write_front(10, 2, master.added + master.taken, master.taken, message);
-    }
+    parts::write_state(role, master.added, master.taken + 1, state);
+    parts::hand_out_if(master.role == 4, rooms, master.taken, number, strip);
 }
 
 // The outstanding message is acknowledged: a strip that was taken is handed out.
@@ -70,11 +54,11 @@ fn settle_state(
     requires { ⌜ (length (now number) ≡ 4) × (length (now strip) ≡ 676) ⌝ }
     ensures { λ _. ⌜ (now (state .exit), (now (rooms .exit), (now (number .exit), now (strip .exit)))) ≡ settle master (now (rooms .entry)) (now (strip .entry)) ⌝ }
 {
-    rooms::write_state(0, master.added, master.taken, state);
-    rooms::hand_out_if(
+    parts::write_state(0, master.added, master.taken, state);
+    parts::hand_out_if(
         master.role == 2,
         rooms,
-        messages::before(master.taken),
+        parts::before(master.taken),
         number,
         strip,
     );
@@ -96,7 +80,7 @@ pub fn acknowledge(
         settle_state(master, state, rooms, number, strip);
         return;
     }
-    rooms::write_number(0, number);
+    parts::write_number(0, number);
 }
 
 // The next message is applied: the strip is put into its room, or the room of the one taken is zeroed.
@@ -109,8 +93,8 @@ fn apply_next(master: State, asked: Message, message: &[u8], state: &mut [u8], r
     match asked {
         Message::Adds(_, _) => add_next(master, 3, &message[12..], state, rooms),
         Message::Takes(_, _) => {
-            rooms::clear(rooms, master.taken);
-            rooms::write_state(3, master.added, master.taken + 1, state);
+            parts::clear(rooms, master.taken);
+            parts::write_state(3, master.added, master.taken + 1, state);
         }
         Message::Acknowledges(_) => {} // does not fit, nor does the last
         Message::Unreadable => {}
@@ -124,7 +108,7 @@ pub fn apply(state: &mut [u8], rooms: &mut [u8], message: &[u8], acknowledgement
     let master = state::read(state);
     let asked = message::read(message);
     let sequence = checks::sequence_of(asked);
-    messages::write_acknowledgement(sequence, acknowledgement);
+    parts::write_acknowledgement(sequence, acknowledgement);
     if state::sent(master) < state::wide(sequence) {
         apply_next(master, asked, message, state, rooms);
     }
@@ -135,5 +119,5 @@ pub fn go_alone(state: &mut [u8])
     ensures { λ _. ⌜ now (state .exit) ≡ stateBytes (withRole (stateIn (now (state .entry))) 4) ⌝ }
 {
     let master = state::read(state);
-    rooms::write_state(4, master.added, master.taken, state);
+    parts::write_state(4, master.added, master.taken, state);
 }

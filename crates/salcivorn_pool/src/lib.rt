@@ -1,7 +1,8 @@
 // What a host in C sees of the pool: its calls on byte slices. Each answers with the refusal's number, 0 for done.
 ghost use mathlib.Core.Path.{_≡_};
 ghost use Rattle.refusal.specs.Answer.{numbered};
-ghost use Rattle.pool.specs.Calls.{addOf, takeOf, outstandingOf, acknowledgeOf, applyOf, goAloneOf};
+ghost use Rattle.sending.specs.Outstanding.{outstandingOf};
+ghost use Rattle.pool.specs.Calls.{addOf, takeOf, acknowledgeOf, applyOf, goAloneOf};
 
 #[no_mangle]
 pub extern "C" fn salcivorn_pool_add(state: &mut [u8], rooms: &mut [u8], strip: &[u8]) -> u32
@@ -26,7 +27,7 @@ pub extern "C" fn salcivorn_pool_take(
 pub extern "C" fn salcivorn_pool_outstanding(state: &[u8], rooms: &[u8], message: &mut [u8]) -> u32
     ensures { λ n. ⌜ (n, now (message .exit)) ≡ numbered (outstandingOf (now (state .entry)) (now (rooms .entry)) (now (message .entry))) ⌝ }
 {
-    refusal::outcome_number(pool::outstanding(state, rooms, message))
+    refusal::outcome_number(sending::outstanding(state, rooms, message))
 }
 
 #[no_mangle]

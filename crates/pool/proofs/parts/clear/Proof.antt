@@ -1,0 +1,43 @@
+-- `pool::parts::clear` meets its contract: from the zeros left in the part that is the room. Assumes nothing.
+use native.Mathlib.Omega.{arith}
+use borrow.Author.Needs.{needs}
+use Rattle.rooms.proofs.Places.{room-cleared}
+use Rattle.pool.proofs.parts.clear.Statement.{statement}
+use Rattle.pool.proofs.parts.clear.Tie as tie
+
+room-start-requires : tie.Need-room-start-requires
+room-start-requires c κs = search needs
+
+add-zero : tie.Need-add-zero
+add-zero c = search needs
+
+sub-zero : tie.Need-sub-zero
+sub-zero c = search needs
+
+part-zero-start : tie.Need-part-zero-start
+part-zero-start c = search needs
+
+part-zero-end : tie.Need-part-zero-end
+part-zero-end c = search needs
+
+zero-requires : tie.Need-zero-requires
+zero-requires c κs = search needs
+
+same-length : tie.Need-same-length
+same-length c = search needs
+
+returns : tie.Need-returns
+returns c = room-cleared _ _ _ (c .before .before .before .before .room-start .ensures .0) _ (omega (arith, c .before .before .before .before .room-start .ensures .1)) (c .before .before .zero .ensures)
+
+pub clear-spec : {M : Type 1} → statement M
+clear-spec =
+    tie.close
+    (tie.spec
+    room-start-requires
+    add-zero
+    sub-zero
+    part-zero-start
+    part-zero-end
+    zero-requires
+    same-length
+    returns)

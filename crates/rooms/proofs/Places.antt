@@ -1,0 +1,62 @@
+-- Parts of the rooms written and read, as the definitions have them. Assumes nothing.
+use Prim.Native.Nat.{ℕ, zero, suc, _+_, _-_, _*_, _%_, _≤_}
+use native.Mathlib.Omega.{arith}
+use mathlib.Core.Path.{_≡_, refl, ap, _∙_}
+use mathlib.Core.List.{List, [], _++_, append-nil}
+use lib.ListN.{length, take, drop, replicate, length-drop, drop-of-length-le}
+use lib.Seq.{take-length, length-take-le, drop-drop}
+use borrow.Rule.Slice.PartMut.{putMid}
+use Rattle.message.specs.Message.{numberBytes}
+use Rattle.rooms.specs.Rooms.{roomAt, withRoom, padded, filled, cleared, handing}
+
+pub drop-zeros : (n m : ℕ) → drop {A = ℕ} n (replicate m 0) ≡ replicate (m - n) 0
+drop-zeros zero m = let e : m - 0 ≡ m = omega arith in rw e refl
+drop-zeros (suc n) zero = let e : 0 - suc n ≡ 0 = omega arith in rw e refl
+drop-zeros (suc n) (suc m) = let e : suc m - suc n ≡ m - n = omega arith in rw e (drop-zeros n m)
+
+-- bytes copied over zeros
+pub padded-is : (from part z new : List ℕ) → z ≡ replicate (length part) 0 → new ≡ take (length from) from ++ drop (length from) z → new ≡ padded (length part) from
+unfolding padded
+padded-is from part z new e h = h ∙ rw (e, take-length from, drop-zeros (length from) (length part)) refl
+
+-- ---- a room, which begins at start
+module _ (rooms : List ℕ) (n start : ℕ) (e : start ≡ 676 * (n % 64)) where
+  pub room-put : (room : List ℕ) → putMid start (start + 676 - start) rooms room ≡ withRoom rooms n room
+  unfolding withRoom
+  room-put room =
+      let k : start + 676 - start ≡ 676 = omega arith in
+      let d : drop 676 (drop start rooms) ≡ drop (start + 676) rooms = drop-drop 676 start rooms in
+      rw (k, d, e) refl
+
+  -- the part of the rooms that a call is lent
+  mid : List ℕ
+  mid = take (start + 676 - start) (drop start rooms)
+
+  mid-length : start + 676 ≤ length rooms → length mid ≡ 676
+  unfolding mid
+  mid-length h = length-take-le (start + 676 - start) (drop start rooms) (omega (arith, length-drop start rooms)) ∙ omega arith
+
+  pub room-filled : (s room : List ℕ) → start + 676 ≤ length rooms → room ≡ padded (length (take (start + 676 - start) (drop start rooms))) s → putMid start (start + 676 - start) rooms room ≡ filled rooms n s
+  unfolding filled mid
+  room-filled s room l h = room-put room ∙ ap (withRoom rooms n) (h ∙ ap (λ (k : ℕ). padded k s) (mid-length l))
+
+  pub room-cleared : (room : List ℕ) → start + 676 ≤ length rooms → room ≡ replicate (length (take (start + 676 - start) (drop start rooms))) 0 → putMid start (start + 676 - start) rooms room ≡ cleared rooms n
+  unfolding cleared mid
+  room-cleared room l h = room-put room ∙ ap (withRoom rooms n) (h ∙ ap (λ (k : ℕ). replicate k 0) (mid-length l))
+
+  pub room-read : (k : ℕ) → k ≡ start + 676 - start → take k (drop start rooms) ≡ roomAt rooms n
+  unfolding roomAt
+  room-read k h = let i : k ≡ 676 = omega arith in rw (i, e) refl
+
+  -- what is handed out: the room's bytes over the whole of the lent part
+  pub handed-out : (k : ℕ) (strip strip′ number rooms′ : List ℕ) → k ≡ start + 676 - start → length strip ≡ 676 → start + 676 ≤ length rooms
+      → let room = take k (drop start rooms) in strip′ ≡ take (length room) room ++ drop (length room) strip → rooms′ ≡ cleared rooms n → number ≡ numberBytes (n + 1)
+      → (rooms′, (number, strip′)) ≡ handing rooms n
+  unfolding handing
+  handed-out k strip strip′ number rooms′ h l g p q r =
+      let i : k ≡ 676 = omega arith in
+      let room : List ℕ = take k (drop start rooms) in
+      let m : length room ≡ 676 = length-take-le k (drop start rooms) (omega (arith, length-drop start rooms)) ∙ i in
+      let z : drop (length room) strip ≡ [] = drop-of-length-le strip {i = length room} (omega arith) in
+      let s : strip′ ≡ roomAt rooms n = p ∙ rw (z, take-length room, append-nil room) (room-read k h) in
+      rw (q, r, s) refl

@@ -1,0 +1,37 @@
+-- The rooms: 64 of 676 bytes, one after another. The strip that has n before it lies in room n modulo 64; what is free is zero.
+use Prim.Native.Nat.{ℕ, _+_, _-_, _*_, _%_}
+use mathlib.Core.List.{List, _++_}
+use lib.ListN.{length, take, drop, replicate}
+use Rattle.strip.specs.Strip.{lengthField}
+use Rattle.message.specs.Message.{numberBytes}
+
+-- 64 rooms of 676 bytes
+abbrev pub roomsSize : ℕ
+roomsSize = 64 * 676
+
+unfoldable pub roomAt : List ℕ → ℕ → List ℕ
+roomAt rooms n = take 676 (drop (676 * (n % 64)) rooms)
+
+unfoldable pub withRoom : List ℕ → ℕ → List ℕ → List ℕ
+withRoom rooms n room = take (676 * (n % 64)) rooms ++ (room ++ drop (676 * (n % 64) + 676) rooms)
+
+-- bytes, and zeros to a length
+unfoldable pub padded : ℕ → List ℕ → List ℕ
+padded size l = l ++ replicate (size - length l) 0
+
+unfoldable pub filled : List ℕ → ℕ → List ℕ → List ℕ
+filled rooms n s = withRoom rooms n (padded 676 s)
+
+unfoldable pub cleared : List ℕ → ℕ → List ℕ
+cleared rooms n = withRoom rooms n (replicate 676 0)
+
+-- the strip in a room: as long as its own length field says
+unfoldable pub stripIn : List ℕ → List ℕ
+stripIn room = take (lengthField room + 2) room
+
+-- the rooms, a strip's number and the strip, when it is handed out and its room zeroed, and when none is: then the number is 0
+unfoldable pub handing : List ℕ → ℕ → List ℕ × (List ℕ × List ℕ)
+handing rooms n = (cleared rooms n, (numberBytes (n + 1), roomAt rooms n))
+
+unfoldable pub handingNone : List ℕ → List ℕ → List ℕ × (List ℕ × List ℕ)
+handingNone rooms strip = (rooms, (numberBytes 0, strip))
