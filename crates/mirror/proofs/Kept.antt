@@ -10,10 +10,9 @@ use mathlib.Core.Bool.{true, false}
 use lib.ListN.{length}
 use lib.Dec.{leb, eqb}
 use Rattle.refusal.specs.Answer.{choose, passes}
-use Rattle.refusal.proofs.First.{clash, neither}
+use Rattle.refusal.proofs.First.{clash, neither, true-false, passes-first, passes-both}
 use Rattle.mirror.specs.Mirror.{most, Strips, Pool, lowest, put, less, Said, done, handed, acknowledged, Checks, noRoom, noneHeld, Out, nothing, adding, taking, Active, waiting, add, take, settled, acknowledge, Message, adds, takes, sequence, messageOf, outstanding, Standby, lowestIs, fits, applyTo, notApplied, receive, goAlone, addAlone, takeAlone, paper, World, Event, adds-strip, takes-strip, sends, arrives, answered, cuts, adds-alone, takes-alone, at, noteHanded, withActive, withAdded, withSent, withStandby, withAlone, arrived, came, addedAlone, step, empty, start, after}
 use Rattle.mirror.specs.Claims.{All, In, Above}
-use Rattle.refusal.proofs.First.{true-false, passes-first, passes-both}
 use Rattle.mirror.proofs.Pools.{all-map, all-append, all-at, Among, Grows, grows-behind, grows-before, choose-both, unless-both, Numbered, above, numbered-to, numbered-next, Whole, whole-more, whole-put, whole-less}
 
 -- ---- what is kept: r is the pool up to which the standby has followed the active, k the last sequence number it applied

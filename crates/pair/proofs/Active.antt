@@ -22,12 +22,12 @@ use Rattle.mirror.specs.Mirror.{Said, Checks}
 use Rattle.state.specs.declared.State.{State}
 use Rattle.state.specs.State as roles
 use Rattle.master.specs.Master as master
-use Rattle.state.specs.State.{most, stateIn, stateBytes, sent, gone}
+use Rattle.state.specs.State.{most, stateIn, stateBytes, sent, gone, oneMore, oneTaken, withRole}
 use Rattle.master.specs.Master.{usedUp, sending, counts}
 use Rattle.rooms.specs.Rooms.{roomAt, padded, filled, cleared, stripIn, handing, handingNone}
 use Rattle.checks.specs.Checks.{addChecks, takeChecks, isAcknowledgement}
 use Rattle.sending.specs.Outstanding.{messageOf, outstandingOf}
-use Rattle.pool.specs.Calls.{oneMore, oneTaken, withRole, addOf, takeOf, acknowledgeOf, settle}
+use Rattle.pool.specs.Calls.{addOf, takeOf, acknowledgeOf, settle}
 use Rattle.pair.specs.Pair.{Cabinet, afterAdd, afterHanding, add, takeOut, acknowledge, sentIn, outstanding, poolIn, outIn, activeIn, messageIn, numberIn, messagesIn}
 use Rattle.pair.specs.Claims.{Messages}
 use Rattle.pair.proofs.Rooms.{Filled, first-cleared}

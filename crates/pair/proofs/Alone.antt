@@ -19,11 +19,12 @@ use Rattle.refusal.proofs.First.{passes-first, passes-both}
 use Rattle.state.specs.declared.State.{State}
 use Rattle.state.specs.State as roles
 use Rattle.master.specs.Master as master
-use Rattle.state.specs.State.{stateIn, stateBytes, sent}
+use Rattle.state.specs.State.{stateIn, stateBytes, sent, oneMore, oneTaken, withRole}
 use Rattle.master.specs.Master.{usedUp, sending}
 use Rattle.rooms.specs.Rooms.{roomAt, filled, cleared, stripIn, handing, handingNone}
 use Rattle.checks.specs.Checks.{addChecks, takeChecks}
-use Rattle.pool.specs.Calls.{oneMore, oneTaken, withRole, addOf, takeOf, goAloneOf}
+use Rattle.standby.specs.Calls.{goAloneOf}
+use Rattle.pool.specs.Calls.{addOf, takeOf}
 use Rattle.pair.specs.Pair.{Cabinet, afterAdd, afterHanding, afterAlone, add, takeOut, goAlone, poolIn, standbyIn}
 use Rattle.pair.proofs.Rooms.{Filled}
 use Rattle.pair.proofs.Bytes.{own-good}

@@ -17,10 +17,9 @@ use Rattle.mirror.specs.Mirror.{Said, Checks}
 use Rattle.state.specs.declared.State.{State}
 use Rattle.state.specs.State as roles
 use Rattle.master.specs.Master as master
-use Rattle.state.specs.State.{most, stateIn, stateBytes, sent, gone, neverSent, sentTooMuch, impossible, noState}
+use Rattle.state.specs.State.{most, stateIn, stateBytes, sent, gone, neverSent, sentTooMuch, impossible, noState, oneMore, oneTaken}
 use Rattle.rooms.specs.Rooms.{roomAt, filled, cleared, stripIn}
 use Rattle.checks.specs.Checks.{notLent, notLentWith, notLentOut}
-use Rattle.pool.specs.Calls.{oneMore, oneTaken}
 use Rattle.pair.specs.Pair.{Cabinet, handedIn, heldIn, poolIn}
 use Rattle.pair.proofs.Rooms.{Filled, next-filled, first-cleared, filled-here, filled-held, cleared-held, held-length, held-more}
 use Rattle.state.proofs.Laws.{state-length, gone-other}

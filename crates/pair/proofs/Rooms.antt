@@ -10,8 +10,7 @@ use lib.Seq.{length-take-le, take-at, drop-at, take-append-le, drop-append-le, d
 use lib.Dec.{eqb, ltb}
 use borrow.Author.Tests.{eqb-true, eqb-false, ltb-true, ltb-false}
 use Rattle.mirror.specs.Mirror.{Strips}
-use Rattle.rooms.specs.Rooms.{roomsSize}
-use Rattle.rooms.specs.Rooms.{roomAt, withRoom, padded, filled, cleared, stripIn}
+use Rattle.rooms.specs.Rooms.{roomsSize, roomAt, withRoom, padded, filled, cleared, stripIn}
 use Rattle.pair.specs.Pair.{heldIn}
 
 -- a truth value decides

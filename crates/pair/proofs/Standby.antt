@@ -21,12 +21,12 @@ use Rattle.mirror.specs.Mirror as mirror
 use Rattle.mirror.specs.Mirror.{Said, Checks}
 use Rattle.state.specs.declared.State.{State}
 use Rattle.state.specs.State as roles
-use Rattle.state.specs.State.{most, stateIn, stateBytes, sent}
+use Rattle.state.specs.State.{most, stateIn, stateBytes, sent, oneMore, oneTaken}
 use Rattle.rooms.specs.Rooms.{filled, cleared}
 use Rattle.checks.specs.Checks as checks
-use Rattle.pool.specs.Calls as calls
+use Rattle.standby.specs.Calls as calls
 use Rattle.checks.specs.Checks.{isMessage}
-use Rattle.pool.specs.Calls.{oneMore, oneTaken, applyOf}
+use Rattle.standby.specs.Calls.{applyOf}
 use Rattle.pair.specs.Pair.{Cabinet, afterApply, applyAt, apply, sentBack, heldIn, poolIn, standbyIn, messageIn, numbersIn}
 use Rattle.pair.specs.Claims.{Means, Acknowledgements}
 use Rattle.pair.proofs.Rooms.{by-bool, Filled, held-length}

@@ -14,10 +14,10 @@ use Rattle.mirror.specs.Mirror.{Strips, Said, Event, adds-strip, takes-strip, s
 use Rattle.state.specs.declared.State.{State}
 use Rattle.state.specs.State as roles
 use Rattle.state.specs.State.{stateIn, sent}
-use Rattle.rooms.specs.Rooms.{roomsSize}
-use Rattle.rooms.specs.Rooms.{roomAt, stripIn}
+use Rattle.rooms.specs.Rooms.{roomsSize, roomAt, stripIn}
 use Rattle.sending.specs.Outstanding.{outstandingOf}
-use Rattle.pool.specs.Calls.{addOf, takeOf, acknowledgeOf, applyOf, goAloneOf}
+use Rattle.standby.specs.Calls.{applyOf, goAloneOf}
+use Rattle.pool.specs.Calls.{addOf, takeOf, acknowledgeOf}
 
 -- what the host of a master keeps for it, as bytes
 pub record Cabinet : Type 0 where

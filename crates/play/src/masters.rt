@@ -112,7 +112,7 @@ pub fn acknowledge(master: Master, item: [u8; 688]) -> Master {
 
 pub fn go_alone(master: Master) -> Master {
     let mut state = master.state;
-    let answer = pool::go_alone(&mut state);
+    let answer = standby::go_alone(&mut state);
     let mut next = master;
     next.state = state;
     next.answer = refusal::outcome_number(answer);
@@ -137,7 +137,7 @@ pub fn apply(master: Master, message: [u8; 688]) -> Master {
     let mut state = master.state;
     let mut rooms = master.rooms;
     let mut item = [0u8; 688];
-    let answer = pool::apply(&mut state, &mut rooms, &message[..size], &mut item[..8]);
+    let answer = standby::apply(&mut state, &mut rooms, &message[..size], &mut item[..8]);
     let mut next = master;
     next.state = state;
     next.rooms = rooms;

@@ -1,10 +1,10 @@
-// The mirrored pool of strips: a state of nine bytes and 64 rooms, both lent by the host, and the calls of an active master and its standby.
+// The mirrored pool of strips at the master that adds and takes: the active one, or its standby once it goes on alone. A state of nine bytes and 64 rooms, both lent by the host.
 mod parts;
 mod steps;
 
 ghost use mathlib.Core.Path.{_≡_};
 ghost use Rattle.refusal.specs.Answer.{outcome};
-ghost use Rattle.pool.specs.Calls.{addOf, takeOf, acknowledgeOf, applyOf, goAloneOf};
+ghost use Rattle.pool.specs.Calls.{addOf, takeOf, acknowledgeOf};
 use refusal::Outcome;
 
 // A strip is added under the next number, and its message is outstanding.
@@ -50,35 +50,6 @@ pub fn acknowledge(
     );
     match checked {
         Outcome::Done => steps::acknowledge(state, rooms, acknowledgement, number, strip),
-        Outcome::Refused(_) => {}
-    }
-    checked
-}
-
-// A message has come to the standby: it is applied if it is the next, and acknowledged.
-pub fn apply(
-    state: &mut [u8],
-    rooms: &mut [u8],
-    message: &[u8],
-    acknowledgement: &mut [u8],
-) -> Outcome
-    ensures { λ r. ⌜ (outcome r, (now (state .exit), (now (rooms .exit), now (acknowledgement .exit)))) ≡ applyOf (now (state .entry)) (now (rooms .entry)) (now (message .entry)) (now (acknowledgement .entry)) ⌝ }
-{
-    let checked = checks::apply(state, rooms.len(), message, acknowledgement.len());
-    match checked {
-        Outcome::Done => steps::apply(state, rooms, message, acknowledgement),
-        Outcome::Refused(_) => {}
-    }
-    checked
-}
-
-// The standby goes on alone from what it has applied.
-pub fn go_alone(state: &mut [u8]) -> Outcome
-    ensures { λ r. ⌜ (outcome r, now (state .exit)) ≡ goAloneOf (now (state .entry)) ⌝ }
-{
-    let checked = checks::go_alone(state);
-    match checked {
-        Outcome::Done => steps::go_alone(state),
         Outcome::Refused(_) => {}
     }
     checked

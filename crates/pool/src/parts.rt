@@ -1,20 +1,10 @@
-// What is written into lent parts: a state, a number, an acknowledgement, and the rooms: a strip put into one and handed out of one.
+// A strip handed out of its room, with its number beside it.
 ghost use mathlib.Core.Path.{_≡_};
-ghost use Prim.Native.Nat.{_-_, _<_, _≤_};
+ghost use Prim.Native.Nat.{_-_, _<_};
 ghost use lib.ListN.{length};
 ghost use Rattle.refusal.specs.Answer.{choose};
-ghost use Rattle.message.specs.Message.{numberBytes, acknowledgement};
-ghost use Rattle.rooms.specs.Rooms.{roomsSize, padded, filled, cleared, handing, handingNone};
-ghost use Rattle.state.specs.State.{stateBytes};
-use state::State;
-
-pub fn write_state(role: u8, added: u32, taken: u32, state: &mut [u8])
-    requires { ⌜ length (now state) ≡ 9 ⌝ }
-    ensures { λ _. ⌜ now (state .exit) ≡ stateBytes (record { role = role; added = added; taken = taken }) ⌝ }
-{
-    let all = state::state_bytes(State { role, added, taken });
-    bytes::copy(&all, state);
-}
+ghost use Rattle.message.specs.Message.{numberBytes};
+ghost use Rattle.rooms.specs.Rooms.{roomsSize, handing, handingNone};
 
 pub fn write_number(n: u32, part: &mut [u8])
     requires { ⌜ length (now part) ≡ 4 ⌝ }
@@ -22,31 +12,6 @@ pub fn write_number(n: u32, part: &mut [u8])
 {
     let number = message::number_bytes(n);
     bytes::copy(&number, part);
-}
-
-// Bytes, and zeros behind them.
-pub fn fill(from: &[u8], part: &mut [u8])
-    requires { ⌜ length (now from) ≤ length (now part) ⌝ }
-    ensures { λ _. ⌜ now (part .exit) ≡ padded (length (now (part .entry))) (now (from .entry)) ⌝ }
-{
-    strip::zero(part);
-    bytes::copy(from, part);
-}
-
-pub fn put(rooms: &mut [u8], n: u32, strip: &[u8])
-    requires { ⌜ (length (now rooms) ≡ roomsSize) × (length (now strip) ≤ 676) ⌝ }
-    ensures { λ _. ⌜ now (rooms .exit) ≡ filled (now (rooms .entry)) n (now (strip .entry)) ⌝ }
-{
-    let start = rooms::room_start(n);
-    fill(strip, &mut rooms[start..start + 676]);
-}
-
-pub fn clear(rooms: &mut [u8], n: u32)
-    requires { ⌜ length (now rooms) ≡ roomsSize ⌝ }
-    ensures { λ _. ⌜ now (rooms .exit) ≡ cleared (now (rooms .entry)) n ⌝ }
-{
-    let start = rooms::room_start(n);
-    strip::zero(&mut rooms[start..start + 676]);
 }
 
 // The strip that has n before it leaves its room, which is zeroed.
@@ -57,7 +22,7 @@ pub fn hand_out(rooms: &mut [u8], n: u32, number: &mut [u8], strip: &mut [u8])
 {
     let start = rooms::room_start(n);
     bytes::copy(&rooms[start..start + 676], strip);
-    clear(rooms, n);
+    rooms::clear(rooms, n);
     write_number(n + 1, number);
 }
 
@@ -81,12 +46,4 @@ pub fn before(n: u32) -> u32
         return 0;
     }
     n - 1
-}
-
-pub fn write_acknowledgement(sequence: u32, part: &mut [u8])
-    requires { ⌜ length (now part) ≡ 8 ⌝ }
-    ensures { λ _. ⌜ now (part .exit) ≡ acknowledgement sequence ⌝ }
-{
-    let all = message::acknowledgement_bytes(sequence);
-    bytes::copy(&all, part);
 }

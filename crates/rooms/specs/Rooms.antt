@@ -2,6 +2,8 @@
 use Prim.Native.Nat.{ℕ, _+_, _-_, _*_, _%_}
 use mathlib.Core.List.{List, _++_}
 use lib.ListN.{length, take, drop, replicate}
+use lib.Dec.{eqb, leb}
+use Rattle.refusal.specs.Answer.{choose}
 use Rattle.strip.specs.Strip.{lengthField}
 use Rattle.message.specs.Message.{numberBytes}
 
@@ -15,12 +17,20 @@ roomAt rooms n = take 676 (drop (676 * (n % 64)) rooms)
 unfoldable pub withRoom : List ℕ → ℕ → List ℕ → List ℕ
 withRoom rooms n room = take (676 * (n % 64)) rooms ++ (room ++ drop (676 * (n % 64) + 676) rooms)
 
+-- a step f where l is as long as all rooms; else l is left as it is
+unfoldable pub onRooms : (List ℕ → List ℕ) → List ℕ → List ℕ
+onRooms f l = choose (eqb (length l) roomsSize) (f l) l
+
 -- bytes, and zeros to a length
 unfoldable pub padded : ℕ → List ℕ → List ℕ
 padded size l = l ++ replicate (size - length l) 0
 
 unfoldable pub filled : List ℕ → ℕ → List ℕ → List ℕ
 filled rooms n s = withRoom rooms n (padded 676 s)
+
+-- and only a strip that a room can hold
+unfoldable pub filledBy : ℕ → List ℕ → List ℕ → List ℕ
+filledBy n s rooms = choose (leb (length s) 676) (filled rooms n s) rooms
 
 unfoldable pub cleared : List ℕ → ℕ → List ℕ
 cleared rooms n = withRoom rooms n (replicate 676 0)

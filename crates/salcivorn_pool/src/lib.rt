@@ -2,7 +2,8 @@
 ghost use mathlib.Core.Path.{_≡_};
 ghost use Rattle.refusal.specs.Answer.{numbered};
 ghost use Rattle.sending.specs.Outstanding.{outstandingOf};
-ghost use Rattle.pool.specs.Calls.{addOf, takeOf, acknowledgeOf, applyOf, goAloneOf};
+ghost use Rattle.standby.specs.Calls.{applyOf, goAloneOf};
+ghost use Rattle.pool.specs.Calls.{addOf, takeOf, acknowledgeOf};
 
 #[no_mangle]
 pub extern "C" fn salcivorn_pool_add(state: &mut [u8], rooms: &mut [u8], strip: &[u8]) -> u32
@@ -52,12 +53,12 @@ pub extern "C" fn salcivorn_pool_apply(
 ) -> u32
     ensures { λ n. ⌜ (n, (now (state .exit), (now (rooms .exit), now (acknowledgement .exit)))) ≡ numbered (applyOf (now (state .entry)) (now (rooms .entry)) (now (message .entry)) (now (acknowledgement .entry))) ⌝ }
 {
-    refusal::outcome_number(pool::apply(state, rooms, message, acknowledgement))
+    refusal::outcome_number(standby::apply(state, rooms, message, acknowledgement))
 }
 
 #[no_mangle]
 pub extern "C" fn salcivorn_pool_go_alone(state: &mut [u8]) -> u32
     ensures { λ n. ⌜ (n, now (state .exit)) ≡ numbered (goAloneOf (now (state .entry))) ⌝ }
 {
-    refusal::outcome_number(pool::go_alone(state))
+    refusal::outcome_number(standby::go_alone(state))
 }

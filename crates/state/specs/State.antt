@@ -31,6 +31,20 @@ stateIn l = record { role = getD l 0 0; added = numberAt l 1; taken = numberAt l
 unfoldable pub stateBytes : State → List ℕ
 stateBytes m = m .role ∷ numberBytes (m .added) ++ numberBytes (m .taken)
 
+-- written over a part of nine bytes; any other is left as it is
+unfoldable pub written : State → List ℕ → List ℕ
+written m l = choose (eqb (length l) 9) (stateBytes m) l
+
+-- a master after one more addition, after one more taking, and only in another role
+unfoldable pub oneMore : State → ℕ → State
+oneMore m role = record { role = role; added = m .added + 1; taken = m .taken }
+
+unfoldable pub oneTaken : State → ℕ → State
+oneTaken m role = record { role = role; added = m .added; taken = m .taken + 1 }
+
+unfoldable pub withRole : State → ℕ → State
+withRole m role = record { role = role; added = m .added; taken = m .taken }
+
 -- each addition and each taking is one message, so the last sequence number is their sum
 abbrev pub sent : State → ℕ
 sent m = m .added + m .taken

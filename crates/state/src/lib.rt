@@ -2,7 +2,7 @@
 ghost use mathlib.Core.Path.{_≡_};
 ghost use Prim.Native.Nat.{_<_};
 ghost use Rattle.refusal.specs.Refusal.{failed};
-ghost use Rattle.state.specs.State.{stateIn, stateBytes, sent, gone, neverSent, sentTooMuch, impossible, noState};
+ghost use Rattle.state.specs.State.{stateIn, stateBytes, written, sent, gone, neverSent, sentTooMuch, impossible, noState};
 use refusal::Check;
 
 // The roles: 0 active with nothing outstanding, 1 with an addition, 2 with a taking outstanding, 3 standby, 4 alone.
@@ -30,7 +30,7 @@ pub fn read(state: &[u8]) -> State
     }
 }
 
-pub fn state_bytes(master: State) -> [u8; 9]
+fn state_bytes(master: State) -> [u8; 9]
     ensures { λ b. ⌜ b ≡ stateBytes master ⌝ }
 {
     let added = message::number_bytes(master.added);
@@ -46,6 +46,16 @@ pub fn state_bytes(master: State) -> [u8; 9]
         taken[2],
         taken[3],
     ]
+}
+
+// A state is written over; a part of any other length is left as it is.
+pub fn write(role: u8, added: u32, taken: u32, state: &mut [u8])
+    ensures { λ _. ⌜ now (state .exit) ≡ written (record { role = role; added = added; taken = taken }) (now (state .entry)) ⌝ }
+{
+    if state.len() == 9 {
+        let all = state_bytes(State { role, added, taken });
+        bytes::copy(&all, state);
+    }
 }
 
 // The last sequence number.

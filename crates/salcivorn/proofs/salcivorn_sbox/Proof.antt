@@ -1,8 +1,7 @@
 -- `salcivorn::salcivorn_sbox` meets its contract: from the answers of the checks and of the S-box. Assumes nothing.
 use native.Mathlib.Omega.{arith}
 use borrow.Author.Needs.{needs}
-use Rattle.salcivorn.proofs.Laws.{data-there, mask-there, record-there}
-use Rattle.salcivorn.proofs.Laws.{sbox-13, sbox-6, sbox-refused, sbox-done}
+use Rattle.salcivorn.proofs.Laws.{data-there, mask-there, record-there, sbox-13, sbox-6, sbox-refused, sbox-done}
 use Rattle.salcivorn.proofs.salcivorn_sbox.Statement.{statement}
 use Rattle.salcivorn.proofs.salcivorn_sbox.Tie as tie
 

@@ -1,8 +1,8 @@
 -- `pool::parts::hand_out` meets its contract: from the room's bytes copied, the room zeroed and the number written. Assumes nothing.
 use mathlib.Core.Path.{refl}
 use native.Mathlib.Omega.{arith}
+use Rattle.rooms.proofs.Places.{handed-out, clear-whole}
 use borrow.Author.Needs.{needs}
-use Rattle.rooms.proofs.Places.{handed-out}
 use Rattle.pool.proofs.parts.hand_out.Statement.{statement}
 use Rattle.pool.proofs.parts.hand_out.Tie as tie
 
@@ -43,7 +43,7 @@ same-length-3 : tie.Need-same-length-3
 same-length-3 c = search needs
 
 returns : tie.Need-returns
-returns c = handed-out _ _ _ (c .before .before .before .before .before .before .before .before .before .before .before .before .before .before .room-start .ensures .0) _ (c .before .before .before .before .before .before .before .before .before .before .before .before .before .before .before .before .before .before .args .strip .now) _ _ _ refl (omega arith) (omega (arith, c .before .before .before .before .before .before .before .before .before .before .before .before .before .before .room-start .ensures .1)) (c .before .before .before .before .before .before .before .before .before .before .copy .ensures .1) (c .before .before .before .before .before .before .clear .ensures) (c .before .before .write-number .ensures)
+returns c = handed-out _ _ _ (c .before .before .before .before .before .before .before .before .before .before .before .before .before .before .room-start .ensures .0) _ (c .before .before .before .before .before .before .before .before .before .before .before .before .before .before .before .before .before .before .args .strip .now) _ _ _ refl (omega arith) (omega (arith, c .before .before .before .before .before .before .before .before .before .before .before .before .before .before .room-start .ensures .1)) (c .before .before .before .before .before .before .before .before .before .before .copy .ensures .1) (clear-whole _ _ _ (omega arith) (c .before .before .before .before .before .before .clear .ensures)) (c .before .before .write-number .ensures)
 
 pub hand-out-spec : {M : Type 1} → statement M
 hand-out-spec =

@@ -1,5 +1,8 @@
--- `pool::steps::add` meets its contract: from what its checks leave, and the next strip put. Assumes nothing.
-use Rattle.pool.proofs.Promise.{add-may, add-done}
+-- `pool::steps::add` meets its contract: from what its checks leave, the room filled and the state written. Assumes nothing.
+use native.Mathlib.Omega.{arith}
+use Rattle.rooms.proofs.Places.{put-whole}
+use Rattle.state.proofs.Laws.{written-nine}
+use Rattle.pool.proofs.Promise.{add-may, added-so, add-done}
 use borrow.Author.Needs.{needs}
 use Rattle.pool.proofs.steps.add.Statement.{statement}
 use Rattle.pool.proofs.steps.add.Tie as tie
@@ -10,8 +13,14 @@ read-requires c κs = search needs
 role-sending-requires : tie.Need-role-sending-requires
 role-sending-requires c κs = search needs
 
-add-next-requires : tie.Need-add-next-requires
-add-next-requires c κs = add-may (c .before .before .before .before .before .before .before .before .args .state .now) (c .before .before .before .before .before .before .before .before .args .rooms .now) (c .before .before .before .before .before .before .before .before .args .strip .now) (c .before .before .before .before .before .before .before .before .pre) _ (c .before .before .before .read .ensures)
+put-requires : tie.Need-put-requires
+put-requires c κs = search needs
+
+add-write : tie.Need-add-write
+add-write c = omega (arith, add-may (c .before .before .before .before .before .before .before .before .before .before .before .args .state .now) (c .before .before .before .before .before .before .before .before .before .before .before .args .rooms .now) (c .before .before .before .before .before .before .before .before .before .before .before .args .strip .now) (c .before .before .before .before .before .before .before .before .before .before .before .pre) _ (c .before .before .before .before .before .before .read .ensures) .1 .1)
+
+write-requires : tie.Need-write-requires
+write-requires c κs = search needs
 
 same-length : tie.Need-same-length
 same-length c = search needs
@@ -20,7 +29,7 @@ same-length-2 : tie.Need-same-length-2
 same-length-2 c = search needs
 
 returns : tie.Need-returns
-returns c = add-done (c .before .before .before .before .before .before .before .before .before .before .before .before .before .args .state .now) (c .before .before .before .before .before .before .before .before .before .before .before .before .before .args .rooms .now) (c .before .before .before .before .before .before .before .before .before .before .before .before .before .args .strip .now) (c .before .before .before .before .before .before .before .before .before .before .before .before .before .pre) _ (c .before .before .before .before .before .before .before .before .read .ensures) _ _ (c .before .before .before .before .before .before .before .role-sending .ensures) (c .before .before .before .before .add-next .ensures)
+returns c = add-done (c .before .before .before .before .before .before .before .before .before .before .before .before .before .before .before .args .state .now) (c .before .before .before .before .before .before .before .before .before .before .before .before .before .before .before .args .rooms .now) (c .before .before .before .before .before .before .before .before .before .before .before .before .before .before .before .args .strip .now) (c .before .before .before .before .before .before .before .before .before .before .before .before .before .before .before .pre) _ (c .before .before .before .before .before .before .before .before .before .before .read .ensures) _ _ (c .before .before .before .before .before .before .before .before .before .role-sending .ensures) (added-so _ _ (c .before .before .before .before .before .before .before .before .before .before .before .before .before .before .before .args .rooms .now) (c .before .before .before .before .before .before .before .before .before .before .before .before .before .before .before .args .strip .now) _ _ (written-nine _ (c .before .before .before .before .before .before .before .before .before .before .before .before .before .before .before .args .state .now) _ (add-may (c .before .before .before .before .before .before .before .before .before .before .before .before .before .before .before .args .state .now) (c .before .before .before .before .before .before .before .before .before .before .before .before .before .before .before .args .rooms .now) (c .before .before .before .before .before .before .before .before .before .before .before .before .before .before .before .args .strip .now) (c .before .before .before .before .before .before .before .before .before .before .before .before .before .before .before .pre) _ (c .before .before .before .before .before .before .before .before .before .before .read .ensures) .0 .0) (c .before .before .write .ensures)) (put-whole _ _ _ _ (add-may (c .before .before .before .before .before .before .before .before .before .before .before .before .before .before .before .args .state .now) (c .before .before .before .before .before .before .before .before .before .before .before .before .before .before .before .args .rooms .now) (c .before .before .before .before .before .before .before .before .before .before .before .before .before .before .before .args .strip .now) (c .before .before .before .before .before .before .before .before .before .before .before .before .before .before .before .pre) _ (c .before .before .before .before .before .before .before .before .before .before .read .ensures) .0 .1) (add-may (c .before .before .before .before .before .before .before .before .before .before .before .before .before .before .before .args .state .now) (c .before .before .before .before .before .before .before .before .before .before .before .before .before .before .before .args .rooms .now) (c .before .before .before .before .before .before .before .before .before .before .before .before .before .before .before .args .strip .now) (c .before .before .before .before .before .before .before .before .before .before .before .before .before .before .before .pre) _ (c .before .before .before .before .before .before .before .before .before .before .read .ensures) .1 .0) (c .before .before .before .before .before .before .before .put .ensures)))
 
 pub add-spec : {M : Type 1} → statement M
 add-spec =
@@ -28,7 +37,9 @@ add-spec =
     (tie.spec
     read-requires
     role-sending-requires
-    add-next-requires
+    put-requires
+    add-write
+    write-requires
     same-length
     same-length-2
     returns)

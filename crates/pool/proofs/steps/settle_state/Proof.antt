@@ -1,11 +1,13 @@
 -- `pool::steps::settle_state` meets its contract: from the state written and what is handed out. Assumes nothing.
+use native.Mathlib.Omega.{arith}
+use Rattle.state.proofs.Laws.{written-nine}
 use Rattle.pool.proofs.Promise.{settled}
 use borrow.Author.Needs.{needs}
 use Rattle.pool.proofs.steps.settle_state.Statement.{statement}
 use Rattle.pool.proofs.steps.settle_state.Tie as tie
 
-write-state-requires : tie.Need-write-state-requires
-write-state-requires c κs = search needs
+write-requires : tie.Need-write-requires
+write-requires c κs = search needs
 
 before-requires : tie.Need-before-requires
 before-requires c κs = search needs
@@ -26,13 +28,13 @@ same-length-4 : tie.Need-same-length-4
 same-length-4 c = search needs
 
 returns : tie.Need-returns
-returns c = settled _ (c .before .before .before .before .before .before .before .before .before .before .before .before .before .before .before .before .before .before .before .before .args .rooms .now) (c .before .before .before .before .before .before .before .before .before .before .before .before .before .before .before .before .before .before .before .before .args .strip .now) _ _ _ (c .before .before .before .before .before .before .before .before .before .before .before .before .before .before .write-state .ensures) (c .before .before .before .before .before .before .before .before .before .before2 .ensures) (c .before .before .before .before .before .before .hand-out-if .ensures)
+returns c = settled _ (c .before .before .before .before .before .before .before .before .before .before .before .before .before .before .before .before .before .before .before .before .args .rooms .now) (c .before .before .before .before .before .before .before .before .before .before .before .before .before .before .before .before .before .before .before .before .args .strip .now) _ _ _ (written-nine _ (c .before .before .before .before .before .before .before .before .before .before .before .before .before .before .before .before .before .before .before .before .args .state .now) _ (omega arith) (c .before .before .before .before .before .before .before .before .before .before .before .before .before .before .write .ensures)) (c .before .before .before .before .before .before .before .before .before .before2 .ensures) (c .before .before .before .before .before .before .hand-out-if .ensures)
 
 pub settle-state-spec : {M : Type 1} → statement M
 settle-state-spec =
     tie.close
     (tie.spec
-    write-state-requires
+    write-requires
     before-requires
     hand-out-if-requires
     same-length

@@ -1,6 +1,7 @@
 -- `pool::steps::take` meets its contract: from what its checks leave, the state written and what is handed out. Assumes nothing.
-use Rattle.pool.proofs.Promise.{take-nine, take-one, take-may, take-done}
 use native.Mathlib.Omega.{arith}
+use Rattle.state.proofs.Laws.{written-nine}
+use Rattle.pool.proofs.Promise.{take-nine, take-one, take-may, take-done}
 use borrow.Author.Needs.{needs}
 use Rattle.pool.proofs.steps.take.Statement.{statement}
 use Rattle.pool.proofs.steps.take.Tie as tie
@@ -11,11 +12,11 @@ read-requires c κs = search needs
 role-sending-requires : tie.Need-role-sending-requires
 role-sending-requires c κs = search needs
 
-add-write-state : tie.Need-add-write-state
-add-write-state c = omega (arith, take-one (c .before .before .before .before .before .before .before .before .args .state .now) (c .before .before .before .before .before .before .before .before .args .rooms .now) (c .before .before .before .before .before .before .before .before .args .number .now) (c .before .before .before .before .before .before .before .before .args .strip .now) (c .before .before .before .before .before .before .before .before .pre) _ (c .before .before .read .ensures))
+add-write : tie.Need-add-write
+add-write c = omega (arith, take-one (c .before .before .before .before .before .before .before .before .args .state .now) (c .before .before .before .before .before .before .before .before .args .rooms .now) (c .before .before .before .before .before .before .before .before .args .number .now) (c .before .before .before .before .before .before .before .before .args .strip .now) (c .before .before .before .before .before .before .before .before .pre) _ (c .before .before .read .ensures))
 
-write-state-requires : tie.Need-write-state-requires
-write-state-requires c κs = take-nine (c .before .before .before .before .before .before .before .before .before .args .state .now) (c .before .before .before .before .before .before .before .before .before .args .rooms .now) (c .before .before .before .before .before .before .before .before .before .args .number .now) (c .before .before .before .before .before .before .before .before .before .args .strip .now) (c .before .before .before .before .before .before .before .before .before .pre) _ (c .before .before .before .read .ensures)
+write-requires : tie.Need-write-requires
+write-requires c κs = search needs
 
 hand-out-if-requires : tie.Need-hand-out-if-requires
 hand-out-if-requires c κs = take-may (c .before .before .before .before .before .before .before .before .before .before .before .before .before .before .before .before .args .state .now) (c .before .before .before .before .before .before .before .before .before .before .before .before .before .before .before .before .args .rooms .now) (c .before .before .before .before .before .before .before .before .before .before .before .before .before .before .before .before .args .number .now) (c .before .before .before .before .before .before .before .before .before .before .before .before .before .before .before .before .args .strip .now) (c .before .before .before .before .before .before .before .before .before .before .before .before .before .before .before .before .pre) _ (c .before .before .before .before .before .before .before .before .before .before .read .ensures) (omega arith)
@@ -33,7 +34,7 @@ same-length-4 : tie.Need-same-length-4
 same-length-4 c = search needs
 
 returns : tie.Need-returns
-returns c = take-done (c .before .before .before .before .before .before .before .before .before .before .before .before .before .before .before .before .before .before .before .before .before .before .before .args .state .now) (c .before .before .before .before .before .before .before .before .before .before .before .before .before .before .before .before .before .before .before .before .before .before .before .args .rooms .now) (c .before .before .before .before .before .before .before .before .before .before .before .before .before .before .before .before .before .before .before .before .before .before .before .args .number .now) (c .before .before .before .before .before .before .before .before .before .before .before .before .before .before .before .before .before .before .before .before .before .before .before .args .strip .now) (c .before .before .before .before .before .before .before .before .before .before .before .before .before .before .before .before .before .before .before .before .before .before .before .pre) _ (c .before .before .before .before .before .before .before .before .before .before .before .before .before .before .before .before .before .read .ensures) _ _ _ (c .before .before .before .before .before .before .before .before .before .before .before .before .before .before .before .before .role-sending .ensures) (c .before .before .before .before .before .before .before .before .before .before .before .before .before .write-state .ensures) (c .before .before .before .before .before .before .hand-out-if .ensures)
+returns c = take-done (c .before .before .before .before .before .before .before .before .before .before .before .before .before .before .before .before .before .before .before .before .before .before .before .args .state .now) (c .before .before .before .before .before .before .before .before .before .before .before .before .before .before .before .before .before .before .before .before .before .before .before .args .rooms .now) (c .before .before .before .before .before .before .before .before .before .before .before .before .before .before .before .before .before .before .before .before .before .before .before .args .number .now) (c .before .before .before .before .before .before .before .before .before .before .before .before .before .before .before .before .before .before .before .before .before .before .before .args .strip .now) (c .before .before .before .before .before .before .before .before .before .before .before .before .before .before .before .before .before .before .before .before .before .before .before .pre) _ (c .before .before .before .before .before .before .before .before .before .before .before .before .before .before .before .before .before .read .ensures) _ _ _ (c .before .before .before .before .before .before .before .before .before .before .before .before .before .before .before .before .role-sending .ensures) (written-nine _ _ _ (take-nine (c .before .before .before .before .before .before .before .before .before .before .before .before .before .before .before .before .before .before .before .before .before .before .before .args .state .now) (c .before .before .before .before .before .before .before .before .before .before .before .before .before .before .before .before .before .before .before .before .before .before .before .args .rooms .now) (c .before .before .before .before .before .before .before .before .before .before .before .before .before .before .before .before .before .before .before .before .before .before .before .args .number .now) (c .before .before .before .before .before .before .before .before .before .before .before .before .before .before .before .before .before .before .before .before .before .before .before .args .strip .now) (c .before .before .before .before .before .before .before .before .before .before .before .before .before .before .before .before .before .before .before .before .before .before .before .pre) _ (c .before .before .before .before .before .before .before .before .before .before .before .before .before .before .before .before .before .read .ensures)) (c .before .before .before .before .before .before .before .before .before .before .before .before .before .write .ensures)) (c .before .before .before .before .before .before .hand-out-if .ensures)
 
 pub take-spec : {M : Type 1} → statement M
 take-spec =
@@ -41,8 +42,8 @@ take-spec =
     (tie.spec
     read-requires
     role-sending-requires
-    add-write-state
-    write-state-requires
+    add-write
+    write-requires
     hand-out-if-requires
     same-length
     same-length-2
