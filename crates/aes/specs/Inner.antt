@@ -1,37 +1,10 @@
--- The rows of ShiftRows and the columns of MixColumns one at a time, for private contracts. No promise rests on this.
+-- The rows of ShiftRows one at a time, for private contracts. No promise rests on this.
 use Prim.Native.Nat.{ℕ, _+_, _%_}
-use mathlib.Core.Bool.{Bool, true, false}
-use mathlib.Core.List.{List, [], _∷_, _++_}
-use lib.ListN.{getD, set, take, drop}
-use Rattle.fips197.specs.Field.{_⊕_, _•_}
+use mathlib.Core.List.{List}
+use lib.ListN.{getD, set}
 
 -- the bytes of one row, read round from place n on; the other rows as they are
 unfoldable pub rowFrom : ℕ → ℕ → List ℕ → List ℕ
 rowFrom row n l =
     set (set (set (set l row (getD l n 0)) (row + 4) (getD l ((n + 4) % 16) 0)) (row + 8) (getD l ((n + 8) % 16) 0)) (row + 12)
     (getD l ((n + 12) % 16) 0)
-
--- a byte of a column from those of its own row and of the rows below it, in turn
-unfoldable pub mixByte : ℕ → ℕ → ℕ → ℕ → ℕ
-mixByte a b c d = 0x02 • a ⊕ 0x03 • b ⊕ 0x01 • c ⊕ 0x01 • d
-
-unfoldable pub invMixByte : ℕ → ℕ → ℕ → ℕ → ℕ
-invMixByte a b c d = 0x0e • a ⊕ 0x0b • b ⊕ 0x0d • c ⊕ 0x09 • d
-
--- the one, or for the inverse the other
-unfoldable pub byteBy : Bool → ℕ → ℕ → ℕ → ℕ → ℕ
-byteBy false = mixByte
-byteBy true = invMixByte
-
--- the four bytes of a column
-unfoldable pub columnOf : (ℕ → ℕ → ℕ → ℕ → ℕ) → List ℕ → List ℕ
-columnOf f l =
-    f (getD l 0 0) (getD l 1 0) (getD l 2 0) (getD l 3 0) ∷
-    f (getD l 1 0) (getD l 2 0) (getD l 3 0) (getD l 0 0) ∷
-    f (getD l 2 0) (getD l 3 0) (getD l 0 0) (getD l 1 0) ∷
-    f (getD l 3 0) (getD l 0 0) (getD l 1 0) (getD l 2 0) ∷ []
-
--- and of a state its columns at 0, 4, 8 and 12
-unfoldable pub columnsOf : (ℕ → ℕ → ℕ → ℕ → ℕ) → List ℕ → List ℕ
-columnsOf f l =
-    columnOf f (take 4 l) ++ (columnOf f (take 4 (drop 4 l)) ++ (columnOf f (take 4 (drop 8 l)) ++ columnOf f (take 4 (drop 12 l))))

@@ -94,7 +94,7 @@ fn mix(part: &mut [u8], round: usize, rounds: usize)
     if last(round, rounds) {
         return;
     }
-    aes::mix_columns(part);
+    columns::mix_columns(part);
 }
 
 // A round of 5.1, on data and mask; the round key goes to the data alone. Rounds count from 0, as the records of the strip do.
@@ -140,7 +140,7 @@ fn unmix(part: &mut [u8], round: usize, rounds: usize)
     if last(round, rounds) {
         return;
     }
-    aes::inverse_mix_columns(part);
+    columns::inverse_mix_columns(part);
 }
 
 // A round of 5.3, on data and mask: the rows go back first, so that a record is that of the position after it. The round keys are counted down.

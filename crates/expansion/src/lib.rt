@@ -18,7 +18,7 @@ fn power(j: usize) -> u8
     let mut i: usize = 0;
     let mut b: u8 = 0x01;
     while i < j {
-        b = aes::double(b);
+        b = columns::double(b);
         i += 1;
     }
     b

@@ -1,8 +1,8 @@
--- `aes::mix_byte` meets its contract: from the products by 1, 2 and 3. Assumes nothing.
-use Rattle.aes.proofs.Bytes.{mixed-byte}
+-- `columns::mix_byte` meets its contract: from the products by 1, 2 and 3. Assumes nothing.
+use Rattle.columns.proofs.Bytes.{mixed-byte}
 use borrow.Author.Needs.{needs}
-use Rattle.aes.proofs.mix_byte.Statement.{statement}
-use Rattle.aes.proofs.mix_byte.Tie as tie
+use Rattle.columns.proofs.mix_byte.Statement.{statement}
+use Rattle.columns.proofs.mix_byte.Tie as tie
 
 double-requires : tie.Need-double-requires
 double-requires c κs = search needs

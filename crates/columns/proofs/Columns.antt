@@ -6,7 +6,7 @@ use Prim.Native.Nat.{ℕ}
 use lib.ListN.{length, getD, take, drop, set}
 use Rattle.fips197.specs.Cipher.{cell, state, columnsBy, mixColumns, invMixColumns}
 use Rattle.fips197.proofs.Lists.{eta}
-use Rattle.aes.specs.Inner.{mixByte, invMixByte, byteBy, columnOf, columnsOf}
+use Rattle.columns.specs.Inner.{mixByte, invMixByte, byteBy, columnOf, columnsOf}
 
 stored : (l : List ℕ) (x y z w : ℕ) → length l ≡ 4 → set (set (set (set l 0 x) 1 y) 2 z) 3 w ≡ x ∷ y ∷ z ∷ w ∷ []
 stored l x y z w h = subst (λ (t : List ℕ). set (set (set (set t 0 x) 1 y) 2 z) 3 w ≡ x ∷ y ∷ z ∷ w ∷ []) (sym (eta 4 l h)) refl

@@ -1,10 +1,10 @@
--- `aes::inverse_mix_columns` meets its contract: from the test of the length. Assumes nothing.
+-- `columns::inverse_mix_columns` meets its contract: from the test of the length. Assumes nothing.
 use mathlib.Core.Path.{refl, _∙_}
 use borrow.Author.Needs.{needs}
-use Rattle.aes.proofs.Columns.{inverse-mixed}
+use Rattle.columns.proofs.Columns.{inverse-mixed}
 use Rattle.aes.proofs.Chosen.{on-state, off-state}
-use Rattle.aes.proofs.inverse_mix_columns.Statement.{statement}
-use Rattle.aes.proofs.inverse_mix_columns.Tie as tie
+use Rattle.columns.proofs.inverse_mix_columns.Statement.{statement}
+use Rattle.columns.proofs.inverse_mix_columns.Tie as tie
 
 mix-state-columns-requires : tie.Need-mix-state-columns-requires
 mix-state-columns-requires c κs = search needs

@@ -1,9 +1,9 @@
--- `aes::mix_column` meets its contract: from the four bytes stored. Assumes nothing.
+-- `columns::mix_column` meets its contract: from the four bytes stored. Assumes nothing.
 use native.Mathlib.Omega.{arith}
 use borrow.Author.Needs.{needs}
-use Rattle.aes.proofs.Columns.{column-stored}
-use Rattle.aes.proofs.mix_column.Statement.{statement}
-use Rattle.aes.proofs.mix_column.Tie as tie
+use Rattle.columns.proofs.Columns.{column-stored}
+use Rattle.columns.proofs.mix_column.Statement.{statement}
+use Rattle.columns.proofs.mix_column.Tie as tie
 
 slice-read-a : tie.Need-slice-read-a
 slice-read-a c = search needs

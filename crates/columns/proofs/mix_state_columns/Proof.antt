@@ -1,9 +1,9 @@
--- `aes::mix_state_columns` meets its contract: from the four columns one after the other. Assumes nothing.
+-- `columns::mix_state_columns` meets its contract: from the four columns one after the other. Assumes nothing.
 use native.Mathlib.Omega.{arith}
 use borrow.Author.Needs.{needs}
-use Rattle.aes.proofs.Columns.{columns-stored}
-use Rattle.aes.proofs.mix_state_columns.Statement.{statement}
-use Rattle.aes.proofs.mix_state_columns.Tie as tie
+use Rattle.columns.proofs.Columns.{columns-stored}
+use Rattle.columns.proofs.mix_state_columns.Statement.{statement}
+use Rattle.columns.proofs.mix_state_columns.Tie as tie
 
 sub-mix-column : tie.Need-sub-mix-column
 sub-mix-column c = search needs

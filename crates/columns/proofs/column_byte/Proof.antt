@@ -1,8 +1,8 @@
--- `aes::column_byte` meets its contract: from the test of the direction. Assumes nothing.
+-- `columns::column_byte` meets its contract: from the test of the direction. Assumes nothing.
 use borrow.Author.Needs.{needs}
-use Rattle.aes.proofs.Bytes.{byte-back, byte-forth}
-use Rattle.aes.proofs.column_byte.Statement.{statement}
-use Rattle.aes.proofs.column_byte.Tie as tie
+use Rattle.columns.proofs.Bytes.{byte-back, byte-forth}
+use Rattle.columns.proofs.column_byte.Statement.{statement}
+use Rattle.columns.proofs.column_byte.Tie as tie
 
 inverse-mix-byte-requires : tie.Need-inverse-mix-byte-requires
 inverse-mix-byte-requires c κs = search needs

@@ -8,7 +8,7 @@ use Rattle.fips197.proofs.Below.{eq1}
 use Rattle.fips197.proofs.Xor.{sums, lt}
 use Rattle.fips197.proofs.Additive.{Additive, agree-on-bytes}
 use Rattle.fips197.proofs.Field.{xtime-additive, product-right, product-lt}
-use Rattle.aes.specs.Inner.{mixByte, invMixByte, byteBy}
+use Rattle.columns.specs.Inner.{mixByte, invMixByte, byteBy}
 
 -- doubling without a branch
 pub doubled : (b : ℕ) → b < 256 → bitXor (b * 2 % 256) (b / 128 * 0x1b) ≡ xtime b

@@ -1,8 +1,8 @@
--- `aes::double` meets its contract: by the computed test over all bytes. Assumes nothing.
-use Rattle.aes.proofs.Bytes.{doubled}
+-- `columns::double` meets its contract: by the computed test over all bytes. Assumes nothing.
+use Rattle.columns.proofs.Bytes.{doubled}
 use borrow.Author.Needs.{needs}
-use Rattle.aes.proofs.double.Statement.{statement}
-use Rattle.aes.proofs.double.Tie as tie
+use Rattle.columns.proofs.double.Statement.{statement}
+use Rattle.columns.proofs.double.Tie as tie
 
 mul-result : tie.Need-mul-result
 mul-result c = search needs

@@ -1,8 +1,8 @@
--- `aes::inverse_mix_byte` meets its contract: from additivity and the products by 0e, 0b, 0d and 09. Assumes nothing.
-use Rattle.aes.proofs.Bytes.{inverse-mixed-byte}
+-- `columns::inverse_mix_byte` meets its contract: from additivity and the products by 0e, 0b, 0d and 09. Assumes nothing.
+use Rattle.columns.proofs.Bytes.{inverse-mixed-byte}
 use borrow.Author.Needs.{needs}
-use Rattle.aes.proofs.inverse_mix_byte.Statement.{statement}
-use Rattle.aes.proofs.inverse_mix_byte.Tie as tie
+use Rattle.columns.proofs.inverse_mix_byte.Statement.{statement}
+use Rattle.columns.proofs.inverse_mix_byte.Tie as tie
 
 double-requires : tie.Need-double-requires
 double-requires c κs = search needs
