@@ -11,6 +11,7 @@ use Rattle.message.specs.Message.{numberBytes}
 abbrev pub roomsSize : ℕ
 roomsSize = 64 * 676
 
+-- the room of the strip that has n before it, and the rooms with that one changed
 unfoldable pub roomAt : List ℕ → ℕ → List ℕ
 roomAt rooms n = take 676 (drop (676 * (n % 64)) rooms)
 

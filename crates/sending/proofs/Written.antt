@@ -4,7 +4,7 @@ use native.Mathlib.Omega.{arith}
 use mathlib.Core.Path.{_≡_, refl, sym, ap, _∙_}
 use mathlib.Core.List.{List, [], _∷_, _++_, append-assoc, append-nil}
 use lib.ListN.{length, take, drop, replicate, length-append, length-drop, length-take, drop-of-length-le}
-use lib.Seq.{take-length, length-take-le, take-all, drop-at}
+use lib.Seq.{length-take-le, take-all, drop-at, drop-drop}
 use borrow.Rule.Slice.PartMut.{putMid}
 use Rattle.strip.specs.Strip.{lengthField}
 use Rattle.message.specs.Message.{numberBytes, frontBytes, addition, taking}
@@ -40,8 +40,14 @@ front-length : (follows kind k n : ℕ) → length (frontBytes follows kind k ++
 unfolding frontBytes numberBytes
 front-length follows kind k n = refl
 
-pub front-copied : (follows kind k n : ℕ) (b m new : List ℕ) → b ≡ frontBytes follows kind k ++ numberBytes n → new ≡ take (length b) b ++ drop (length b) m → new ≡ (frontBytes follows kind k ++ numberBytes n) ++ drop 12 m
-front-copied follows kind k n b m new e h = h ∙ rw (take-length b, e, front-length follows kind k n) refl
+pub front-copied : (follows kind k n : ℕ) (f l m a part : List ℕ) → length m ≡ 688 → f ≡ frontBytes follows kind k → l ≡ numberBytes n → a ≡ take (length f) f ++ drop (length f) m
+    → part ≡ take (length l) l ++ drop (length l) (take (688 - 8) (drop 8 a)) → putMid 8 (688 - 8) a part ≡ (frontBytes follows kind k ++ numberBytes n) ++ drop 12 m
+unfolding frontBytes numberBytes
+front-copied follows kind k n f l m a part h p q r s =
+    let all : take 680 (drop 8 m) ≡ drop 8 m = take-all 680 (drop 8 m) (omega (arith, length-drop 8 m)) in
+    let none : drop 680 (drop 8 m) ≡ [] = drop-of-length-le (drop 8 m) {i = 680} (omega (arith, length-drop 8 m)) in
+    let behind : drop 4 (drop 8 m) ≡ drop 12 m = drop-drop 4 8 m in
+    rw (s, r, q, p, all, none, behind, append-nil (drop 12 m)) refl
 
 -- zeros behind what stands in front
 behind : (f s : List ℕ) (a b : ℕ) → length f + b ≡ a → f ++ padded b s ≡ padded a (f ++ s)

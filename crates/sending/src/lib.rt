@@ -14,33 +14,14 @@ use refusal::Outcome;
 use state::State;
 
 // A message's first twelve bytes.
-fn front_and_number(follows: u16, kind: u8, sequence: u32, number: u32) -> [u8; 12]
-    ensures { λ b. ⌜ b ≡ frontBytes follows kind sequence ++ numberBytes number ⌝ }
-{
-    let front = message::front_bytes(follows, kind, sequence);
-    let last = message::number_bytes(number);
-    [
-        front[0],
-        front[1],
-        front[2],
-        front[3],
-        front[4],
-        front[5],
-        front[6],
-        front[7],
-        last[0],
-        last[1],
-        last[2],
-        last[3],
-    ]
-}
-
 fn write_front(follows: u16, kind: u8, sequence: u32, number: u32, message: &mut [u8])
     requires { ⌜ length (now message) ≡ 688 ⌝ }
     ensures { λ _. ⌜ now (message .exit) ≡ (frontBytes follows kind sequence ++ numberBytes number) ++ drop 12 (now (message .entry)) ⌝ }
 {
-    let front = front_and_number(follows, kind, sequence, number);
+    let front = message::front_bytes(follows, kind, sequence);
+    let last = message::number_bytes(number);
     bytes::copy(&front, message);
+    bytes::copy(&last, &mut message[8..688]);
 }
 
 // How many bytes of a room are its strip, whatever the room holds.
