@@ -8,10 +8,10 @@ use mathlib.Core.List.{List, [], _∷_}
 use mathlib.Core.Bool.{true, false}
 use Rattle.refusal.specs.Refusal.{refusal}
 use Rattle.refusal.specs.Answer.{first}
-use Rattle.mirror.specs.Mirror.{Checks, done, handed, acknowledged, refused, unless, taking, Active, waiting, add, take, acknowledge, Message, sequence, outstanding, Standby, fits, notApplied, receive, paper, World}
+use Rattle.mirror.specs.Mirror.{Checks, done, handed, acknowledged, refused, unless, nothing, taking, Active, waiting, add, take, acknowledge, Message, sequence, outstanding, Standby, fits, notApplied, receive, paper, World}
 use Rattle.mirror.specs.Claims.{All, Safe}
 use Rattle.mirror.specs.Claims as claims
-use Rattle.mirror.proofs.Pools.{all-map, above, whole-counted, whole-above}
+use Rattle.mirror.proofs.Pools.{all-map, above, whole-ordered, whole-above}
 use Rattle.mirror.proofs.Kept.{Sync, level, ahead, Kept, numbered, quiet, kept}
 
 -- while a message is outstanding nothing is added or taken
@@ -26,6 +26,10 @@ waits-take a e = simp e
 other : (k : ℕ) (a : Active) → (k ≡ a .sent → ⊥) → acknowledge k a ≡ (done, a)
 unfolding acknowledge
 other k a d = simp (ne-eqb k (a .sent) d)
+
+settle : (a : Active) → acknowledge (a .sent) a .1 ≡ record { pool = a .pool; sent = a .sent; out = nothing }
+unfolding acknowledge
+settle a = simp (eq-eqb (a .sent) (a .sent) refl)
 
 hands : (a : Active) (x : ℕ × List ℕ) → a .out ≡ taking x → acknowledge (a .sent) a .0 ≡ handed x
 unfolding acknowledge
@@ -58,12 +62,16 @@ module _ (own : List ℕ → Checks) (w : World) (v : Kept own w) where
     not-by-both = all-map (w .offered) (λ x h. above (x .0) (h .0) (v .near .handed-out)) (v .far .handed-out .between);
     given-added = v .near .among;
     offered-added = v .far .among;
-    numbered-once = v .near .numbers .upward;
-    active-counted = whole-counted (v .near .whole);
-    standby-counted = whole-counted (v .far .whole);
+    numbered-once = v .near .entries .numbers .upward;
+    numbered-alone = v .alone .numbers .upward;
+    added-fit = v .near .entries .fit;
+    added-alone-fit = v .alone .fit;
+    active-ordered = whole-ordered (v .near .whole);
+    standby-ordered = whole-ordered (v .far .whole);
     one-add = λ e s. waits-add own s (w .active) e;
     one-take = waits-take (w .active);
     only = λ k. other k (w .active);
+    settles = settle (w .active);
     mirrored = λ o here. v .far .same here .0 ∙ sym (quiet o (v .near .sync) .0);
     heard = hears;
     served = hands (w .active);

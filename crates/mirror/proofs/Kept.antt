@@ -12,7 +12,7 @@ use lib.Dec.{leb, eqb}
 use Rattle.refusal.specs.Answer.{choose, passes}
 use Rattle.refusal.proofs.First.{clash, neither, true-false, passes-first, passes-both}
 use Rattle.mirror.specs.Mirror.{most, Strips, Pool, lowest, put, less, Said, done, handed, acknowledged, Checks, noRoom, noneHeld, Out, nothing, adding, taking, Active, waiting, add, take, settled, acknowledge, Message, adds, takes, sequence, messageOf, outstanding, Standby, lowestIs, fits, applyTo, notApplied, receive, goAlone, addAlone, takeAlone, paper, World, Event, adds-strip, takes-strip, sends, arrives, answered, cuts, adds-alone, takes-alone, at, noteHanded, withActive, withAdded, withSent, withStandby, withAlone, arrived, came, addedAlone, step, empty, start, after}
-use Rattle.mirror.specs.Claims.{All, In, Above}
+use Rattle.mirror.specs.Claims.{All, In, Above, Fit}
 use Rattle.mirror.proofs.Pools.{all-map, all-append, all-at, Among, Grows, grows-behind, grows-before, choose-both, unless-both, Numbered, above, numbered-to, numbered-next, Whole, whole-more, whole-put, whole-less}
 
 -- ---- what is kept: r is the pool up to which the standby has followed the active, k the last sequence number it applied
@@ -27,11 +27,22 @@ Pending entered given taken nothing = Unit {0}
 Pending entered given taken (adding x) = Unit {0}
 Pending entered given taken (taking x) = (x .0 ≡ taken) × Above given (x .0) × In x entered
 
+-- what one master has entered: each number once, up to its last, and every strip of good form
+pub record Entered (own : List ℕ → Checks) (last : ℕ) (entered : Strips) : Type 0 where
+  pub numbers : Numbered 0 last entered
+  pub fit : Fit own entered
+
+enters : {own : List ℕ → Checks} {last : ℕ} {entered : Strips} (s : List ℕ) → passes (own s) ≡ true → Entered own last entered → Entered own (suc last) ((suc last, s) ∷ entered)
+enters {last} s e v = record {
+  numbers = numbered-next (above (suc last) (omega arith) (v .numbers)) (omega arith) (omega arith) (omega arith) (v .numbers);
+  fit = (e, v .fit);
+}
+
 -- the active: what it has given, the standby has taken too
 pub record Near (own : List ℕ → Checks) (r : Pool) (k : ℕ) (entered given : Strips) (a : Active) : Type 0 where
   pub sync : Sync own r k a
   pub whole : Whole entered (a .pool)
-  pub numbers : Numbered 0 (a .pool .added) entered
+  pub entries : Entered own (a .pool .added) entered
   pub handed-out : Numbered 0 (r .taken) given
   pub among : Among entered given
   pub pending : Pending entered given (a .pool .taken) (a .out)
@@ -53,6 +64,7 @@ pub record Kept (own : List ℕ → Checks) (w : World) : Type 0 where
   pub r : Pool
   pub near : Near own r (w .standby .applied) (w .entered) (w .given) (w .active)
   pub far : Far r (w .enteredAlone ++ w .entered) (w .offered) (w .standby)
+  pub alone : Entered own (w .standby .pool .added) (w .enteredAlone)
   pub line : Line (w .standby .applied) (w .active) (w .link) (w .back)
 
 -- the outstanding message has the last number sent
@@ -116,10 +128,11 @@ fits-take own k p e = go (p .held) e where
   go [] e = absurd (true-false e)
   go (x ∷ l) e = eq-eqb (x .0) (x .0) refl
 
-apply-taken : (m : Message) (p : Pool) → p .taken ≤ applyTo m p .taken
+-- a message applied takes nothing back
+apply-grows : (m : Message) (p : Pool) → (p .taken ≤ applyTo m p .taken) × (p .added ≤ applyTo m p .added)
 unfolding applyTo put less
-apply-taken (adds k n s) p = omega arith
-apply-taken (takes k n) p = omega arith
+apply-grows (adds k n s) p = (omega arith, omega arith)
+apply-grows (takes k n) p = (omega arith, omega arith)
 
 not-alone : (own : List ℕ → Checks) (m : Message) (b : Standby) → notApplied own m b ≡ false → b .alone ≡ false
 unfolding notApplied
@@ -150,19 +163,21 @@ module _ (own : List ℕ → Checks) (w : World) (v : Kept own w) where
         let free = passes-first 23 (waiting (a .out)) _ e in
         let o = not-waiting (a .out) (free .0) in
         let fit = passes-both (own s) ((14, noRoom (a .pool)) ∷ []) (passes-first 24 (leb most (a .sent)) _ (free .1) .1) in
+        let free-room = passes-first 14 (noRoom (a .pool)) [] (fit .1) .0 in
         let x : ℕ × List ℕ = (suc (a .pool .added), s) in
         let a′ : Active = record { pool = put s (a .pool); sent = suc (a .sent); out = adding x } in
         record {
           r = v .r;
           near = record {
-            sync = moves (adds (suc (a .sent)) (x .0) s) o refl refl refl (fits-add own (suc (a .sent)) s (a .pool) (fit .0) (passes-first 14 (noRoom (a .pool)) [] (fit .1) .0)) (v .near .sync);
-            whole = whole-put s (v .near .whole);
-            numbers = numbered-next (above (x .0) (omega arith) (v .near .numbers)) (omega arith) (omega arith) (omega arith) (v .near .numbers);
+            sync = moves (adds (suc (a .sent)) (x .0) s) o refl refl refl (fits-add own (suc (a .sent)) s (a .pool) (fit .0) free-room) (v .near .sync);
+            whole = whole-put s free-room (v .near .whole);
+            entries = enters s (fit .0) (v .near .entries);
             handed-out = v .near .handed-out;
             among = all-map (w .given) (λ y i. inr i) (v .near .among);
             pending = tt;
           };
           far = far-more (grows-behind (w .enteredAlone) (w .entered) x) (v .far);
+          alone = v .alone;
           line = line-new o (v .line);
         }
 
@@ -184,12 +199,13 @@ module _ (own : List ℕ → Checks) (w : World) (v : Kept own w) where
           near = record {
             sync = moves (takes (suc (a .sent)) (x .0)) o refl refl refl (fits-take own (suc (a .sent)) (a .pool) some) (v .near .sync);
             whole = c .0;
-            numbers = v .near .numbers;
+            entries = v .near .entries;
             handed-out = v .near .handed-out;
             among = v .near .among;
             pending = (c .1, above (x .0) (omega (arith, c .1, ap (λ (p : Pool). p .taken) q)) (v .near .handed-out), c .2);
           };
           far = v .far;
+          alone = v .alone;
           line = line-new o (v .line);
         }
 
@@ -212,12 +228,13 @@ module _ (own : List ℕ → Checks) (w : World) (v : Kept own w) where
           near = record {
             sync = level (q .0) (q .1);
             whole = v .near .whole;
-            numbers = v .near .numbers;
+            entries = v .near .entries;
             handed-out = c .0;
             among = c .1;
             pending = tt;
           };
           far = v .far;
+          alone = v .alone;
           line = record {
             messages = all-map (w .link) (λ m z. inl (⊎-elim (λ y. y) (λ y. omega (arith, numbered a m y, q .1)) z)) (v .line .messages);
             answers = v .line .answers;
@@ -230,6 +247,7 @@ module _ (own : List ℕ → Checks) (w : World) (v : Kept own w) where
     r = v .r;
     near = v .near;
     far = v .far;
+    alone = v .alone;
     line = record { messages = all-append _ (outstanding a) (w .link) (all-map (outstanding a) (λ m. inr) (itself a)) (v .line .messages); answers = v .line .answers };
   }
 
@@ -241,19 +259,19 @@ module _ (own : List ℕ → Checks) (w : World) (v : Kept own w) where
     now = record { pool = applyTo m (b .pool); applied = sequence m; alone = b .alone }
 
     old : sequence m ≤ b .applied → Kept own (withStandby w (acknowledged (sequence m), b))
-    old h = record { r = v .r; near = v .near; far = v .far; line = record { messages = v .line .messages; answers = (h, v .line .answers) } }
+    old h = record { r = v .r; near = v .near; far = v .far; alone = v .alone; line = record { messages = v .line .messages; answers = (h, v .line .answers) } }
 
     level-now : b .alone ≡ false → sequence m ≡ suc (b .applied) → a .sent ≡ sequence m → a .pool ≡ applyTo m (v .r) → Kept own (withStandby w (acknowledged (sequence m), now))
     level-now here e f q =
         let same-pool : applyTo m (b .pool) ≡ a .pool = ap (applyTo m) (v .far .same here .0) ∙ sym q in
         let none : w .offered ≡ [] = v .far .same here .1 in
-        let further : v .r .taken ≤ a .pool .taken = rw q (apply-taken m (v .r)) in
+        let further : v .r .taken ≤ a .pool .taken = rw q (apply-grows m (v .r) .0) in
         record {
           r = a .pool;
           near = record {
             sync = level refl f;
             whole = v .near .whole;
-            numbers = v .near .numbers;
+            entries = v .near .entries;
             handed-out = numbered-to further (v .near .handed-out);
             among = v .near .among;
             pending = v .near .pending;
@@ -265,6 +283,7 @@ module _ (own : List ℕ → Checks) (w : World) (v : Kept own w) where
             among = v .far .among;
             same = λ _. (same-pool, none);
           };
+          alone = record { numbers = numbered-to (apply-grows m (b .pool) .1) (v .alone .numbers); fit = v .alone .fit };
           line = record {
             messages = all-map (w .link) (λ x z. ⊎-elim (λ y. inl (omega arith)) inr z) (v .line .messages);
             answers = (omega arith, all-map (w .back) (λ x y. omega arith) (v .line .answers));
@@ -286,6 +305,7 @@ module _ (own : List ℕ → Checks) (w : World) (v : Kept own w) where
     r = v .r;
     near = v .near;
     far = record { whole = v .far .whole; beyond = v .far .beyond; handed-out = v .far .handed-out; among = v .far .among; same = λ e. absurd (true-false e) };
+    alone = v .alone;
     line = v .line;
   }
 
@@ -296,14 +316,20 @@ module _ (own : List ℕ → Checks) (w : World) (v : Kept own w) where
 
   keeps-add-alone : (s : List ℕ) → b .alone ≡ true → Kept own (addedAlone w s (addAlone own s (b .pool)))
   unfolding addAlone addedAlone withAlone put
-  keeps-add-alone s here = unless-both (λ (t : Said × Pool). Kept own (addedAlone w s t)) _ (b .pool) (done, put s (b .pool)) (λ _. record {
-    r = v .r;
-    near = v .near;
-    far = lone (x ∷ w .enteredAlone) (w .offered) (put s (b .pool)) here (whole-put s (v .far .whole)) (omega arith) (v .far .handed-out) (all-map (w .offered) (λ y i. inr i) (v .far .among));
-    line = v .line;
-  }) (λ r. v) where
+  keeps-add-alone s here = unless-both (λ (t : Said × Pool). Kept own (addedAlone w s t)) _ (b .pool) (done, put s (b .pool)) new (λ r. v) where
     x : ℕ × List ℕ
     x = (suc (b .pool .added), s)
+
+    new : passes (own s ++ ((14, noRoom (b .pool)) ∷ [])) ≡ true → Kept own (addedAlone w s (done, put s (b .pool)))
+    new e =
+        let fit = passes-both (own s) ((14, noRoom (b .pool)) ∷ []) e in
+        record {
+          r = v .r;
+          near = v .near;
+          far = lone (x ∷ w .enteredAlone) (w .offered) (put s (b .pool)) here (whole-put s (passes-first 14 (noRoom (b .pool)) [] (fit .1) .0) (v .far .whole)) (omega arith) (v .far .handed-out) (all-map (w .offered) (λ y i. inr i) (v .far .among));
+          alone = enters s (fit .0) (v .alone);
+          line = v .line;
+        }
 
   keeps-take-alone : b .alone ≡ true → Kept own (withAlone w (w .enteredAlone) (takeAlone (b .pool)))
   unfolding takeAlone withAlone less
@@ -319,6 +345,7 @@ module _ (own : List ℕ → Checks) (w : World) (v : Kept own w) where
           far = lone (w .enteredAlone) (x ∷ w .offered) (less (b .pool)) here (c .0) (omega arith)
               (numbered-next (above (x .0) n (v .far .handed-out)) (omega (arith, v .far .beyond)) (omega (arith, c .1)) (omega arith) (v .far .handed-out))
               (c .2, v .far .among);
+          alone = v .alone;
           line = v .line;
         }
 
@@ -326,8 +353,9 @@ begins : (own : List ℕ → Checks) → Kept own start
 unfolding start empty
 begins own = record {
   r = empty;
-  near = record { sync = level refl refl; whole = record { row = refl; among = tt }; numbers = record { upward = tt; between = tt }; handed-out = record { upward = tt; between = tt }; among = tt; pending = tt };
-  far = record { whole = record { row = refl; among = tt }; beyond = omega arith; handed-out = record { upward = tt; between = tt }; among = tt; same = λ _. (refl, refl) };
+  near = record { sync = level refl refl; whole = record { row = refl; few = omega arith; among = tt }; entries = record { numbers = record { upward = tt; between = tt }; fit = tt }; handed-out = record { upward = tt; between = tt }; among = tt; pending = tt };
+  far = record { whole = record { row = refl; few = omega arith; among = tt }; beyond = omega arith; handed-out = record { upward = tt; between = tt }; among = tt; same = λ _. (refl, refl) };
+  alone = record { numbers = record { upward = tt; between = tt }; fit = tt };
   line = record { messages = tt; answers = tt };
 }
 

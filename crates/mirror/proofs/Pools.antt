@@ -6,12 +6,14 @@ use mathlib.Core.Path.{_≡_, refl, ap}
 use mathlib.Core.Logic.{inl, inr, ⊎-elim}
 use mathlib.Core.List.{List, [], _∷_, _++_}
 use mathlib.Core.Bool.{Bool, true, false}
-use lib.ListN.{length}
+use borrow.Author.Tests.{leb-false}
+use lib.ListN.{length, length-append}
+use lib.Dec.{leb}
 use Rattle.refusal.specs.declared.Refusal.{Refusal}
-use Rattle.refusal.proofs.First.{true-false}
+use Rattle.refusal.proofs.First.{true-false, neither}
 use Rattle.refusal.specs.Answer.{first, choose, passes}
-use Rattle.mirror.specs.Mirror.{Strips, Pool, lowest, rest, put, less, Said, refused, Checks, unless, noneHeld, at}
-use Rattle.mirror.specs.Claims.{All, In, Above, Upward, Counted}
+use Rattle.mirror.specs.Mirror.{Strips, Pool, lowest, rest, put, less, Said, refused, Checks, unless, noRoom, noneHeld, at}
+use Rattle.mirror.specs.Claims.{All, In, Above, Upward, Following, Ordered}
 
 -- ---- lists
 pub all-map : {A : Type 0} {P Q : A → Type 0} (l : List A) → ((x : A) → P x → Q x) → All P l → All Q l
@@ -67,6 +69,10 @@ row-sum : (t : ℕ) (l : Strips) (a : ℕ) → Row t l a → a ≡ length l + t
 row-sum t [] a h = omega arith
 row-sum t (x ∷ l) a h = let e : a ≡ length l + suc t = row-sum (suc t) l a (h .1) in omega arith
 
+row-following : (t : ℕ) (l : Strips) (a : ℕ) → Row t l a → Following t l
+row-following t [] a h = tt
+row-following t (x ∷ l) a h = (h .0, row-following (suc t) l a (h .1))
+
 row-above : (t : ℕ) (l : Strips) (a : ℕ) → Row t l a → All (λ x. t < x .0) l
 row-above t [] a h = tt
 row-above t (x ∷ l) a h = (omega (arith, h .0), all-map l (λ y q. omega arith) (row-above (suc t) l a (h .1)))
@@ -86,32 +92,38 @@ pub numbered-next : {low high high′ : ℕ} {x : ℕ × List ℕ} {l : Strips} 
     → Numbered low high l → Numbered low high′ (x ∷ l)
 numbered-next a i j h v = record { upward = (a, v .upward); between = ((i, j), numbered-to h v .between) }
 
--- ---- a pool whose counts agree with the numbers that it holds, and that holds only what was entered
+-- ---- a pool whose counts agree with the numbers that it holds, that holds at most 64, and only what was entered
 pub record Whole (entered : Strips) (p : Pool) : Type 0 where
   pub row : Row (p .taken) (p .held) (p .added)
+  pub few : length (p .held) ≤ 64
   pub among : Among entered (p .held)
 
-pub whole-counted : {entered : Strips} {p : Pool} → Whole entered p → Counted p
-whole-counted {p} h = row-sum (p .taken) (p .held) (p .added) (h .row)
+pub whole-ordered : {entered : Strips} {p : Pool} → Whole entered p → Ordered p
+whole-ordered {p} h = record {
+  counted = row-sum (p .taken) (p .held) (p .added) (h .row);
+  following = row-following (p .taken) (p .held) (p .added) (h .row);
+  few = h .few;
+}
 
 pub whole-above : {entered : Strips} {p : Pool} → Whole entered p → All (λ x. p .taken < x .0) (p .held)
 whole-above {p} h = row-above (p .taken) (p .held) (p .added) (h .row)
 
 pub whole-more : {k l : Strips} {p : Pool} → Grows k l → Whole k p → Whole l p
-whole-more {p} g h = record { row = h .row; among = all-map (p .held) g (h .among) }
+whole-more {p} g h = record { row = h .row; few = h .few; among = all-map (p .held) g (h .among) }
 
-pub whole-put : {entered : Strips} {p : Pool} (s : List ℕ) → Whole entered p → Whole ((suc (p .added), s) ∷ entered) (put s p)
-unfolding put
-whole-put {entered} {p} s h = record {
+pub whole-put : {entered : Strips} {p : Pool} (s : List ℕ) → noRoom p ≡ false → Whole entered p → Whole ((suc (p .added), s) ∷ entered) (put s p)
+unfolding put noRoom
+whole-put {entered} {p} s free h = record {
   row = row-put (p .taken) (p .held) (p .added) s (h .row);
+  few = simp length-append (omega (arith, leb-false 64 (length (p .held)) (neither (leb 64 (length (p .held))) _ free .0)));
   among = all-append (λ x. In x ((suc (p .added), s) ∷ entered)) (p .held) ((suc (p .added), s) ∷ []) (all-map (p .held) (λ x i. inr i) (h .among)) (inl refl, tt);
 }
 
 pub whole-less : {entered : Strips} {p : Pool} → noneHeld (p .held) ≡ false → Whole entered p
     → Whole entered (less p) × (lowest (p .held) .0 ≡ suc (p .taken)) × In (lowest (p .held)) entered
 unfolding less
-whole-less {entered} {p} e h = go (p .held) e (h .row) (h .among) where
-  go : (l : Strips) → noneHeld l ≡ false → Row (p .taken) l (p .added) → Among entered l
+whole-less {entered} {p} e h = go (p .held) e (h .row) (h .few) (h .among) where
+  go : (l : Strips) → noneHeld l ≡ false → Row (p .taken) l (p .added) → length l ≤ 64 → Among entered l
       → Whole entered (record { added = p .added; taken = suc (p .taken); held = rest l }) × (lowest l .0 ≡ suc (p .taken)) × In (lowest l) entered
-  go [] e i j = absurd (true-false e)
-  go (x ∷ l) e i j = (record { row = i .1; among = j .1 }, i .0, j .0)
+  go [] e i f j = absurd (true-false e)
+  go (x ∷ l) e i f j = (record { row = i .1; few = omega arith; among = j .1 }, i .0, j .0)

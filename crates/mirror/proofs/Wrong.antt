@@ -6,13 +6,14 @@ use mathlib.Core.Path.{_≡_, refl, ap}
 use mathlib.Core.Logic.{⊎-elim}
 use mathlib.Core.List.{List, [], _∷_}
 use Rattle.refusal.specs.Answer.{first, passes}
-use Rattle.mirror.specs.Mirror.{most, put, less, unless, noRoom, add, take, acknowledge, outstanding, fits, applyTo, notApplied, receive, goAlone, addAlone, takeAlone, Rules, paper, Event, withActive, withAdded, withSent, withStandby, withAlone, arrived, came, addedAlone, step, empty, start, after}
-use Rattle.mirror.specs.Wrong.{but, forgets, forgetful, deaf, hasty, credulous, repeats, repeating, strip, ByBoth}
+use Rattle.refusal.proofs.First.{true-false}
+use Rattle.mirror.specs.Mirror.{most, put, less, unless, noRoom, Active, waiting, add, take, acknowledge, outstanding, fits, applyTo, notApplied, receive, goAlone, addAlone, takeAlone, Rules, paper, Event, withActive, withAdded, withSent, withStandby, withAlone, arrived, came, addedAlone, step, empty, start, after}
+use Rattle.mirror.specs.Wrong.{but, forgets, forgetful, deaf, hasty, credulous, repeats, repeating, unsettled, strip, ByBoth}
 use Rattle.mirror.specs.Wrong as wrong
 
 -- one name to compute by
 unfoldable computed : Unit {0}
-unfolding first most put less unless noRoom add take acknowledge outstanding passes fits applyTo notApplied receive goAlone addAlone takeAlone paper withActive withAdded withSent withStandby withAlone arrived came addedAlone step empty start after but forgets forgetful deaf hasty credulous repeats repeating
+unfolding first most put less unless noRoom add take acknowledge outstanding passes fits applyTo notApplied receive goAlone addAlone takeAlone paper withActive withAdded withSent withStandby withAlone arrived came addedAlone step empty start after but forgets forgetful deaf hasty credulous repeats repeating unsettled
 computed = tt
 
 -- no number is above itself
@@ -40,6 +41,11 @@ pub deaf-unsafe : wrong.Deaf
 unfolding computed
 deaf-unsafe = ((refl, refl), λ s. let e = s .heard refl .0 in let z : _≡_ {A = ℕ} 0 1 = cc in omega arith)
 
+-- the message is still outstanding, and the claim says that it is not
+pub unsettled-unsafe : wrong.Unsettled
+unfolding computed
+unsettled-unsafe = (refl, λ s. let e = ap (λ (a : Active). waiting (a .out)) (s .settles) in true-false e)
+
 pub right : wrong.Right
 unfolding computed
 right = record {
@@ -49,4 +55,5 @@ right = record {
   credulous-run = (refl, refl);
   repeating-run = (refl, refl);
   deaf-run = (refl, refl);
+  unsettled-run = refl;
 }

@@ -153,8 +153,9 @@ addAlone own s p = unless (own s ++ ((14, noRoom p) ∷ [])) p (done, put s p)
 unfoldable pub takeAlone : Pool → Said × Pool
 takeAlone p = unless ((15, noneHeld (p .held)) ∷ []) p (handed (lowest (p .held)), less p)
 
--- ---- the rules of a pair, and those of request §8
+-- ---- the rules of a pair, with the strip's own checks, and those of request §8
 pub record Rules : Type 0 where
+  pub own : List ℕ → Checks
   pub onAdd : List ℕ → Active → Said × Active
   pub onTake : Active → Said × Active
   pub onAcknowledgement : ℕ → Active → Said × Active
@@ -164,6 +165,7 @@ pub record Rules : Type 0 where
 
 unfoldable pub paper : (List ℕ → Checks) → Rules
 paper own = record {
+  own = own;
   onAdd = add own;
   onTake = take;
   onAcknowledgement = acknowledge;

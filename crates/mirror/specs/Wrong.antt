@@ -1,11 +1,11 @@
--- Five pairs that each break one rule of request §8, and a run of each after which the safety theorem fails; the same runs with all rules kept. Proved in proofs/Wrong.antt.
+-- Six pairs that each break one rule of request §8, and a run of each after which the safety theorem fails; the same runs with all rules kept. Proved in proofs/Wrong.antt.
 use Prim.Native.Nat.{ℕ}
 use mathlib.Core.Path.{_≡_}
 use mathlib.Core.List.{List, [], _∷_}
-use lib.Dec.{leb}
+use lib.Dec.{leb, eqb}
 use Rattle.refusal.specs.Refusal.{refusal}
 use Rattle.refusal.specs.Answer.{choose}
-use Rattle.mirror.specs.Mirror.{Strips, Pool, Checks, Said, done, handed, acknowledged, refused, unless, Active, add, take, settled, acknowledge, Message, adds, takes, sequence, Standby, applyTo, notApplied, receive, addAlone, takeAlone, Rules, paper, Event, adds-strip, takes-strip, sends, arrives, answered, cuts, takes-alone, after}
+use Rattle.mirror.specs.Mirror.{Strips, Pool, Checks, Said, done, handed, acknowledged, refused, unless, Out, nothing, adding, taking, Active, add, take, settled, acknowledge, Message, adds, takes, sequence, Standby, applyTo, notApplied, receive, addAlone, takeAlone, Rules, paper, Event, adds-strip, takes-strip, sends, arrives, answered, cuts, takes-alone, after}
 use Rattle.mirror.specs.Claims.{Safe}
 
 -- every strip is of good form
@@ -15,6 +15,7 @@ good s = []
 -- the rules of request §8 but for what is done at a taking, at an acknowledgement and at a message
 unfoldable pub but : (Active → Said × Active) → (ℕ → Active → Said × Active) → (Message → Standby → Said × Standby) → Rules
 but onTake onAcknowledgement onMessage = record {
+  own = good;
   onAdd = add good;
   onTake = onTake;
   onAcknowledgement = onAcknowledgement;
@@ -61,6 +62,15 @@ repeats m b =
 
 unfoldable pub repeating : Rules
 repeating = but take acknowledge repeats
+
+-- the active goes on waiting when an addition was acknowledged
+abbrev pub stillAdding : Active → Out → Said × Active
+stillAdding a nothing = acknowledge (a .sent) a
+stillAdding a (adding x) = (done, a)
+stillAdding a (taking x) = acknowledge (a .sent) a
+
+unfoldable pub unsettled : Rules
+unsettled = but take (λ k a. choose (eqb k (a .sent)) (stillAdding a (a .out)) (done, a)) (receive good)
 
 -- ---- the runs, the last event first
 abbrev pub strip : List ℕ
@@ -124,7 +134,14 @@ Answered rules said =
 abbrev pub Deaf : Type 0
 Deaf = Answered deaf (refused (refusal 16)) × Unsafe deaf under-way
 
--- with all rules kept each of these runs hands the strip out once, and the message is acknowledged
+-- what is outstanding once the addition is acknowledged
+abbrev pub Left : Rules → Out → Type 0
+Left rules out = after rules entry .active .out ≡ out
+
+abbrev pub Unsettled : Type 0
+Unsettled = Left unsettled (adding (1, strip)) × Unsafe unsettled entry
+
+-- with all rules kept each of these runs hands the strip out at most once, the message is acknowledged, and nothing is left outstanding
 pub record Right : Type 0 where
   pub only-the-rule : but take acknowledge (receive good) ≡ paper good
   pub forgetful-run : HandedOut (paper good) accident ((1, strip) ∷ []) []
@@ -132,3 +149,4 @@ pub record Right : Type 0 where
   pub credulous-run : HandedOut (paper good) late-answer [] ((1, strip) ∷ [])
   pub repeating-run : HandedOut (paper good) late-message ((1, strip) ∷ []) []
   pub deaf-run : Answered (paper good) (acknowledged 1)
+  pub unsettled-run : Left (paper good) nothing

@@ -8,15 +8,13 @@ use mathlib.Core.Bool.{Bool, true, false}
 use lib.ListN.{length, drop, replicate, length-take}
 use lib.Dec.{eqb, leb}
 use borrow.Author.Tests.{eqb-false, leb-false, ne-eqb}
-use Rattle.refusal.specs.Refusal.{refusal}
 use Rattle.refusal.specs.Answer as answer
 use Rattle.refusal.specs.Answer.{first, choose, either, both, passes}
-use Rattle.refusal.proofs.First.{clash, neither, true-false, passes-first, passes-both}
+use Rattle.refusal.proofs.First.{neither, true-false, passes-first, passes-both}
 use Rattle.strip.specs.Strip.{ownChecks}
 use Rattle.message.specs.Message as message
 use Rattle.message.specs.Message.{addition, readOf}
-use Rattle.message.specs.declared.Message.{Message}
-use Rattle.message.specs.declared.Message.the-variants.{Adds, Takes, Acknowledges, Unreadable}
+use Rattle.message.specs.declared.Message.the-variants.{Acknowledges}
 use Rattle.mirror.specs.Mirror as mirror
 use Rattle.mirror.specs.Mirror.{Said, Checks}
 use Rattle.state.specs.declared.State.{State}
@@ -25,14 +23,15 @@ use Rattle.master.specs.Master as master
 use Rattle.state.specs.State.{most, stateIn, stateBytes, sent, gone, oneMore, oneTaken, withRole}
 use Rattle.master.specs.Master.{usedUp, sending, counts}
 use Rattle.rooms.specs.Rooms.{roomAt, padded, filled, cleared, stripIn, handing, handingNone}
-use Rattle.checks.specs.Checks.{addChecks, takeChecks, isAcknowledgement}
-use Rattle.sending.specs.Outstanding.{messageOf, outstandingOf}
+use Rattle.checks.specs.Checks.{addChecks, takeChecks, notApplied}
+use Rattle.sending.specs.Outstanding.{messageOf}
+use Rattle.standby.specs.Calls.{applyOf}
 use Rattle.pool.specs.Calls.{addOf, takeOf, acknowledgeOf, settle}
-use Rattle.pair.specs.Pair.{Cabinet, afterAdd, afterHanding, add, takeOut, acknowledge, sentIn, outstanding, poolIn, outIn, activeIn, messageIn, numberIn, messagesIn}
-use Rattle.pair.specs.Claims.{Messages}
+use Rattle.pair.specs.Pair.{Cabinet, afterAdd, afterHanding, afterApply, add, takeOut, acknowledge, apply, sentIn, outstanding, poolIn, outIn, activeIn, messageIn, messagesIn}
+use Rattle.pair.specs.Claims.{Messages, refused16}
 use Rattle.pair.proofs.Rooms.{Filled, first-cleared}
 use Rattle.pair.proofs.Bytes.{own-good, none-sent, addition-sent, addition-back, addition-strip, taking-sent, taking-back}
-use Rattle.pair.proofs.Master.{none-handed, some-handed, Sound, Kept, Follows, lent-follows, sound-back, kept-new, lent, lent-with, lent-out, strip-here, same-room, same-none, pool-more, pool-less, pool-lowest, pool-cleared, room-left, some-held, gone-is, more-sound}
+use Rattle.pair.proofs.Master.{none-handed, some-handed, Sound, Kept, Follows, lent-follows, sound-back, kept-new, lent, lent-with, lent-out, sent-is, strip-here, same-room, same-none, pool-more, pool-less, pool-lowest, pool-cleared, room-left, some-held, gone-is, more-sound}
 
 abbrev pub activeOf : Cabinet → mirror.Active
 activeOf c = activeIn (stateIn (c .state)) (c .rooms)
@@ -203,24 +202,15 @@ module _ (c : Cabinet) (v : Active c) where
     go false true e = rw (nothing-out e, none-handed (replicate 676 0)) (refl, v)
     go false false e = (rw (none-handed (replicate 676 0)) refl, v)
 
-  -- bytes that are no acknowledgement get 16
-  pub acknowledge-none : (bytes : List ℕ) → numberIn (readOf bytes) ≡ [] → acknowledge bytes c .0 ≡ mirror.refused (refusal 16)
-  unfolding acknowledge acknowledgeOf afterHanding first
-  acknowledge-none bytes e = rw (lent-out v (omega arith), none (readOf bytes) e) refl where
-    none : (r : Message) → numberIn r ≡ [] → isAcknowledgement r ≡ false
-    none (Adds k n) e = refl
-    none (Takes k n) e = refl
-    none (Acknowledges k) e = clash cc
-    none Unreadable e = refl
+  -- it applies no message
+  pub apply-refused : (bytes : List ℕ) → apply bytes c ≡ refused16 c
+  unfolding apply afterApply applyOf notApplied first
+  apply-refused bytes = rw (lent-with v (omega arith) 8, ne-eqb (m .role) roles.standby (λ e. omega (arith, v .sound .greatest))) refl
 
   -- ---- what it sends
-  sent-is : outstanding c ≡ sentIn (padded 688 (messageOf m (c .rooms)))
-  unfolding outstanding outstandingOf first
-  sent-is = rw (lent-with v (omega arith) 688) refl
-
   pub outstanding-follows : (messagesIn (outstanding c) ≡ mirror.outstanding a) × Messages (outstanding c)
   unfolding messagesIn messageOf mirror.outstanding activeIn outIn
-  outstanding-follows = rw sent-is (go (m .role) refl (v .sound .greatest)) where
+  outstanding-follows = rw (sent-is v (omega arith)) (go (m .role) refl (v .sound .greatest)) where
     small : sent m ≤ most
     small = v .sound .numbered (λ x. omega (arith, v .sound .greatest))
 

@@ -14,9 +14,9 @@ use Rattle.pair.specs.Pair.{Cabinets, apply, ran, standbyIn, standsFor}
 use Rattle.pair.specs.Claims as claims
 use Rattle.pair.specs.Claims.{rules, Answers}
 use Rattle.pair.proofs.Bytes.{acknowledgement-back}
-use Rattle.pair.proofs.Master.{a-state}
-use Rattle.pair.proofs.Active.{add-follows, take-follows, acknowledge-follows, acknowledge-none, outstanding-follows}
-use Rattle.pair.proofs.Standby.{apply-follows, apply-none}
+use Rattle.pair.proofs.Master.{a-state, acknowledge-none}
+use Rattle.pair.proofs.Active.{add-follows, take-follows, acknowledge-follows, apply-refused, outstanding-follows}
+use Rattle.pair.proofs.Standby.{apply-follows, apply-none, sends-nothing, acknowledge-idle}
 use Rattle.pair.proofs.Alone.{cut-follows, waits-add, waits-take, add-alone-follows, take-alone-follows}
 use Rattle.pair.proofs.Run.{byItself, Runs, runs}
 
@@ -48,7 +48,7 @@ module _ (c : Cabinets) (v : Runs c) where
     on-add = λ s. says (add-follows (c .active) (v .near) s .0);
     on-take = says (take-follows (c .active) (v .near) .0);
     on-acknowledgement = λ k h. says (acknowledge-follows (c .active) (v .near) _ k (acknowledgement-back k h) .0);
-    on-no-acknowledgement = acknowledge-none (c .active) (v .near);
+    on-no-acknowledgement = acknowledge-none (v .near) (omega arith);
     on-outstanding = outstanding-follows (c .active) (v .near) .0;
     on-message = λ bytes m h. says (apply-follows (c .standby) (byItself c) (v .far) bytes m h .0);
     on-no-message = apply-none (c .standby) (byItself c) (v .far);
@@ -59,6 +59,10 @@ module _ (c : Cabinets) (v : Runs c) where
     on-take-alone = λ e. says (take-alone-follows (c .standby) (c .enteredAlone) (c .offered) (v .far) (alone-role e) .0);
     no-add = λ e s. says (waits-add (c .standby) (c .enteredAlone) (c .offered) (v .far) s (waiting-role e));
     no-take = λ e. says (waits-take (c .standby) (c .enteredAlone) (c .offered) (v .far) (waiting-role e));
+    nothing-outstanding = sends-nothing (c .standby) (byItself c) (v .far);
+    on-acknowledgement-there = λ k h. acknowledge-idle (c .standby) (byItself c) (v .far) _ k (acknowledgement-back k h);
+    on-no-acknowledgement-there = acknowledge-none (v .far .kept) (omega arith);
+    on-message-here = apply-refused (c .active) (v .near);
   }
 
 pub answered : claims.Answered

@@ -10,17 +10,22 @@ use lib.Dec.{eqb, leb}
 use borrow.Author.Tests.{eqb-true, eqb-false, leb-false, le-ltb, le-leb, lt-leb, ne-eqb, not-true, eq-eqb}
 use Rattle.refusal.specs.declared.Refusal.{Refusal}
 use Rattle.refusal.specs.Answer.{first, both, isNot, above, passes}
-use Rattle.refusal.proofs.First.{neither}
-use Rattle.message.specs.Message.{numberBytes, numberAt}
+use Rattle.refusal.proofs.First.{clash, neither}
+use Rattle.message.specs.Message.{numberBytes, numberAt, readOf}
+use Rattle.message.specs.declared.Message.{Message}
+use Rattle.message.specs.declared.Message.the-variants.{Adds, Takes, Acknowledges, Unreadable}
 use Rattle.mirror.specs.Mirror as mirror
 use Rattle.mirror.specs.Mirror.{Said, Checks}
 use Rattle.state.specs.declared.State.{State}
 use Rattle.state.specs.State as roles
 use Rattle.master.specs.Master as master
 use Rattle.state.specs.State.{most, stateIn, stateBytes, sent, gone, neverSent, sentTooMuch, impossible, noState, oneMore, oneTaken}
-use Rattle.rooms.specs.Rooms.{roomAt, filled, cleared, stripIn}
-use Rattle.checks.specs.Checks.{notLent, notLentWith, notLentOut}
-use Rattle.pair.specs.Pair.{Cabinet, handedIn, heldIn, poolIn}
+use Rattle.rooms.specs.Rooms.{roomAt, padded, filled, cleared, stripIn}
+use Rattle.checks.specs.Checks.{notLent, notLentWith, notLentOut, isAcknowledgement}
+use Rattle.sending.specs.Outstanding.{messageOf, outstandingOf}
+use Rattle.pool.specs.Calls.{acknowledgeOf}
+use Rattle.pair.specs.Pair.{Cabinet, handedIn, afterHanding, acknowledge, sentIn, outstanding, heldIn, poolIn, numberIn}
+use Rattle.pair.specs.Claims.{refused16}
 use Rattle.pair.proofs.Rooms.{Filled, next-filled, first-cleared, filled-here, filled-held, cleared-held, held-length, held-more}
 use Rattle.state.proofs.Laws.{state-length, gone-other}
 use Rattle.pair.proofs.Bytes.{number-back, Good, strip-back, state-back}
@@ -84,6 +89,21 @@ module _ {low high : ℕ} {c : Cabinet} (v : Kept low high c) (h : high ≤ role
   pub lent-out : notLentOut (c .state) (length (c .rooms)) (length {A = ℕ} (replicate 4 0)) (length {A = ℕ} (replicate 676 0)) ≡ false
   unfolding notLentOut
   lent-out = simp (lent-with 4)
+
+  -- bytes that are no acknowledgement get 16, whichever master they come to
+  pub acknowledge-none : (bytes : List ℕ) → numberIn (readOf bytes) ≡ [] → acknowledge bytes c ≡ refused16 c
+  unfolding acknowledge acknowledgeOf afterHanding first
+  acknowledge-none bytes e = rw (lent-out, none (readOf bytes) e) refl where
+    none : (r : Message) → numberIn r ≡ [] → isAcknowledgement r ≡ false
+    none (Adds k n) e = refl
+    none (Takes k n) e = refl
+    none (Acknowledges k) e = clash cc
+    none Unreadable e = refl
+
+  -- what is to be sent
+  pub sent-is : outstanding c ≡ sentIn (padded 688 (messageOf (stateIn (c .state)) (c .rooms)))
+  unfolding outstanding outstandingOf first
+  sent-is = rw (lent-with 688) refl
 
 -- the strip that was put into a room is the one in it
 pub strip-here : {from added : ℕ} {rooms : List ℕ} (v : Filled from added rooms) (s : List ℕ) → Good s → added < from + 64 → stripIn (roomAt (filled rooms added s) added) ≡ s

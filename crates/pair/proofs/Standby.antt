@@ -7,9 +7,8 @@ use mathlib.Core.List.{List, [], _∷_, _++_}
 use mathlib.Core.Bool.{Bool, true, false, not}
 use lib.ListN.{length, drop, replicate}
 use lib.Dec.{eqb, ltb, leb}
-use borrow.Author.Tests.{eqb-true, eqb-false, leb-false, ltb-true, ltb-false, le-ltb, lt-ltb, le-leb, lt-leb, eq-eqb, not-false}
+use borrow.Author.Tests.{eqb-true, eqb-false, leb-false, ltb-true, ltb-false, le-ltb, lt-ltb, le-leb, lt-leb, eq-eqb, ne-eqb, not-false}
 use Rattle.refusal.specs.declared.Refusal.{Refusal}
-use Rattle.refusal.specs.Refusal.{refusal}
 use Rattle.refusal.specs.Answer as answer
 use Rattle.refusal.specs.Answer.{Answer, first, choose, either, both, isNot, passes}
 use Rattle.refusal.proofs.First.{clash, neither, true-false, passes-first}
@@ -22,16 +21,19 @@ use Rattle.mirror.specs.Mirror.{Said, Checks}
 use Rattle.state.specs.declared.State.{State}
 use Rattle.state.specs.State as roles
 use Rattle.state.specs.State.{most, stateIn, stateBytes, sent, oneMore, oneTaken}
-use Rattle.rooms.specs.Rooms.{filled, cleared}
+use Rattle.master.specs.Master.{waiting, counts}
+use Rattle.rooms.specs.Rooms.{filled, cleared, handingNone}
 use Rattle.checks.specs.Checks as checks
 use Rattle.standby.specs.Calls as calls
 use Rattle.checks.specs.Checks.{isMessage}
 use Rattle.standby.specs.Calls.{applyOf}
-use Rattle.pair.specs.Pair.{Cabinet, afterApply, applyAt, apply, sentBack, heldIn, poolIn, standbyIn, messageIn, numbersIn}
-use Rattle.pair.specs.Claims.{Means, Acknowledgements}
+use Rattle.sending.specs.Outstanding.{messageOf}
+use Rattle.pool.specs.Calls.{acknowledgeOf}
+use Rattle.pair.specs.Pair.{Cabinet, afterHanding, afterApply, acknowledge, applyAt, apply, outstanding, sentBack, heldIn, poolIn, standbyIn, messageIn, numbersIn}
+use Rattle.pair.specs.Claims.{Means, Acknowledgements, refused16}
 use Rattle.pair.proofs.Rooms.{by-bool, Filled, held-length}
-use Rattle.pair.proofs.Bytes.{own-good, acknowledgement-back}
-use Rattle.pair.proofs.Master.{Sound, Kept, lent-follows, sound-back, kept-new, lent-with, pool-more, pool-less, pool-cleared, gone-is, more-sound, less-sound}
+use Rattle.pair.proofs.Bytes.{own-good, none-sent, acknowledgement-back}
+use Rattle.pair.proofs.Master.{none-handed, Sound, Kept, lent-follows, sound-back, kept-new, lent-with, lent-out, sent-is, pool-more, pool-less, pool-cleared, gone-is, more-sound, less-sound}
 
 -- what it stands for, and that it is sound; what it did by itself it did alone
 abbrev pub standbyOf : ℕ → Cabinet → mirror.Standby
@@ -246,7 +248,7 @@ module _ (c : Cabinet) (n : ℕ) (v : Standby n c) where
               hears-next (t .0) i (applies (t .0) i (t .2 i))
 
   -- bytes that are no message get 16
-  pub apply-none : (bytes : List ℕ) → messageIn (readOf bytes) (drop 12 bytes) ≡ [] → apply bytes c .0 ≡ mirror.refused (refusal 16)
+  pub apply-none : (bytes : List ℕ) → messageIn (readOf bytes) (drop 12 bytes) ≡ [] → apply bytes c ≡ refused16 c
   unfolding apply afterApply applyOf checks.notApplied first
   apply-none bytes e = rw (lent-with (v .kept) (omega arith) 8, none (readOf bytes) e, either-true (isNot roles.standby (m .role))) refl where
     none : (r : Message) → messageIn r (drop 12 bytes) ≡ [] → isMessage r ≡ false
@@ -254,3 +256,13 @@ module _ (c : Cabinet) (n : ℕ) (v : Standby n c) where
     none (Takes k i) e = clash cc
     none (Acknowledges k) e = refl
     none Unreadable e = refl
+
+  -- ---- it has nothing outstanding, so that it sends nothing and no acknowledgement counts
+  pub sends-nothing : outstanding c ≡ []
+  unfolding messageOf
+  sends-nothing = rw (sent-is (v .kept) (omega arith), ne-eqb (m .role) roles.adding (λ e. omega (arith, v .kept .sound .least)), ne-eqb (m .role) roles.taking (λ e. omega (arith, v .kept .sound .least))) none-sent
+
+  pub acknowledge-idle : (bytes : List ℕ) (k : ℕ) → readOf bytes ≡ Acknowledges k → acknowledge bytes c ≡ (mirror.done, c)
+  unfolding acknowledge acknowledgeOf afterHanding handingNone counts waiting first
+  acknowledge-idle bytes k e =
+      rw (lent-out (v .kept) (omega arith), e, ne-eqb (m .role) roles.adding (λ e. omega (arith, v .kept .sound .least)), ne-eqb (m .role) roles.taking (λ e. omega (arith, v .kept .sound .least)), none-handed (replicate 676 0)) refl

@@ -8,7 +8,7 @@ use Rattle.refusal.specs.Refusal.{refusal}
 use Rattle.strip.specs.Strip.{ownChecks}
 use Rattle.message.specs.Message.{acknowledgement, readOf}
 use Rattle.mirror.specs.Mirror as mirror
-use Rattle.mirror.specs.Mirror.{Rules, paper, World, Event, after, sequence}
+use Rattle.mirror.specs.Mirror.{Said, Rules, paper, World, Event, after, sequence}
 use Rattle.mirror.specs.Claims.{All, Safe}
 use Rattle.state.specs.State.{most, stateIn, gone, noState}
 use Rattle.rooms.specs.Rooms.{roomAt}
@@ -33,18 +33,22 @@ Messages l = All (λ bytes. (m : mirror.Message) × Means bytes m) l
 abbrev pub Acknowledgements : List (List ℕ) → Type 0
 Acknowledgements l = All (λ bytes. (k : ℕ) × (bytes ≡ acknowledgement k) × (k ≤ most)) l
 
+-- what a call says that refuses with 16, and that nothing changes
+abbrev pub refused16 : Cabinet → Said × Cabinet
+refused16 c = (mirror.refused (refusal 16), c)
+
 -- each call says what the system's rule says: the same refusal, the same number and strip, or the same acknowledgement
 pub record Answers (c : Cabinets) (w : World) : Type 0 where
   pub on-add : (s : List ℕ) → add s (c .active) .0 ≡ rules .onAdd s (w .active) .0
   pub on-take : takeOut (c .active) .0 ≡ rules .onTake (w .active) .0
   pub on-acknowledgement : (k : ℕ) → k ≤ most → acknowledge (acknowledgement k) (c .active) .0 ≡ rules .onAcknowledgement k (w .active) .0
   -- and bytes that are no acknowledgement get 16
-  pub on-no-acknowledgement : (bytes : List ℕ) → numberIn (readOf bytes) ≡ [] → acknowledge bytes (c .active) .0 ≡ mirror.refused (refusal 16)
+  pub on-no-acknowledgement : (bytes : List ℕ) → numberIn (readOf bytes) ≡ [] → acknowledge bytes (c .active) ≡ refused16 (c .active)
   -- what is to be sent
   pub on-outstanding : messagesIn (outstanding (c .active)) ≡ mirror.outstanding (w .active)
   -- any bytes that are read as a message, sent or not; and bytes that are no message get 16
   pub on-message : (bytes : List ℕ) (m : mirror.Message) → Means bytes m → apply bytes (c .standby) .0 ≡ rules .onMessage m (w .standby) .0
-  pub on-no-message : (bytes : List ℕ) → messageIn (readOf bytes) (drop 12 bytes) ≡ [] → apply bytes (c .standby) .0 ≡ mirror.refused (refusal 16)
+  pub on-no-message : (bytes : List ℕ) → messageIn (readOf bytes) (drop 12 bytes) ≡ [] → apply bytes (c .standby) ≡ refused16 (c .standby)
   -- what was sent are messages, and what was sent back acknowledgements
   pub link : Messages (c .link)
   pub back : Acknowledgements (c .back)
@@ -54,6 +58,12 @@ pub record Answers (c : Cabinets) (w : World) : Type 0 where
   pub on-take-alone : w .standby .alone ≡ true → takeOut (c .standby) .0 ≡ rules .onTakeAlone (w .standby .pool) .0
   pub no-add : w .standby .alone ≡ false → (s : List ℕ) → add s (c .standby) .0 ≡ mirror.refused (refusal 6)
   pub no-take : w .standby .alone ≡ false → takeOut (c .standby) .0 ≡ mirror.refused (refusal 6)
+  -- a standby, alone or not, has nothing outstanding: nothing is sent, and an acknowledgement that comes to it changes nothing
+  pub nothing-outstanding : outstanding (c .standby) ≡ []
+  pub on-acknowledgement-there : (k : ℕ) → k ≤ most → acknowledge (acknowledgement k) (c .standby) ≡ (mirror.done, c .standby)
+  pub on-no-acknowledgement-there : (bytes : List ℕ) → numberIn (readOf bytes) ≡ [] → acknowledge bytes (c .standby) ≡ refused16 (c .standby)
+  -- and the active applies no message, whatever the bytes are
+  pub on-message-here : (bytes : List ℕ) → apply bytes (c .active) ≡ refused16 (c .active)
 
 abbrev pub Answered : Type 0
 Answered = (es : List Event) → Answers (ran es) (after rules es)

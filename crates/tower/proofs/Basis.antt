@@ -60,8 +60,8 @@ on-powers : (i j : ℕ) → i < 8 → j < 8 → toTower (2 ^ i • 2 ^ j) ≡ by
 unfolding tower field
 on-powers = eq2 8 8 (λ i j. toTower (2 ^ i • 2 ^ j)) (λ i j. byteProduct (toTower (2 ^ i)) (toTower (2 ^ j))) tt
 
-pub tower-is-field : TowerIsField
-tower-is-field a b ha hb =
+product-carried : (a b : ℕ) → a < 256 → b < 256 → toTower (a • b) ≡ byteProduct (toTower a) (toTower b)
+product-carried a b ha hb =
     agree (λ a. toTower (a • b)) (λ a. byteProduct (toTower a) (toTower b))
     (λ x y. ap toTower (product-left b x y) ∙ to-additive (x • b) (y • b))
     (λ x y. ap (λ (z : ℕ). byteProduct z (toTower b)) (to-additive x y) ∙ left-distributive 8 byteProduct 0xff byteInverse byteLaws (toTower x) (toTower y) (toTower b))
@@ -69,3 +69,6 @@ tower-is-field a b ha hb =
     (λ x y. ap toTower (product-right (2 ^ i) x y) ∙ to-additive (2 ^ i • x) (2 ^ i • y))
     (λ x y. ap (byteProduct (toTower (2 ^ i))) (to-additive x y) ∙ byteLaws .distributive (toTower (2 ^ i)) (toTower x) (toTower y))
     8 (λ j k. on-powers i j l k) b hb) a ha
+
+pub tower-is-field : TowerIsField
+tower-is-field a b ha hb = (to-additive a b, product-carried a b ha hb)

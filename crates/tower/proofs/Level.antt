@@ -1,16 +1,16 @@
 -- The field laws of the tower: one lemma from a level to the next, and from the bits up to pairs, nibbles and bytes. Assumes nothing.
 use mathlib.Core.Path.{_≡_, refl, sym, ap, ap₂, _∙_}
 use Prim.Native.Nat.{ℕ, zero, suc, _+_, _-_, _*_, _%_, _^_, _<_}
-use native.Mathlib.Nat.{mod-lt, not-suc-le-zero, mul-comm, mul-assoc, mod-eq-of-lt}
+use native.Mathlib.Nat.{mod-lt, not-suc-le-zero, one-mul, mul-comm, mul-assoc, mod-eq-of-lt}
 use native.Mathlib.Omega.{arith}
 use lib.Bits.{xor-mod}
 use lib.Dec.{ltb, ltb→lt}
 use Rattle.fips197.specs.Field.{_⊕_, field}
 use Rattle.fips197.proofs.Below.{eq1, eq3, all-at, all-at2}
-use Rattle.fips197.proofs.Xor.{sums, lt, two-pos}
+use Rattle.fips197.proofs.Xor.{sums, self, zero-r, lt, two-pos}
 use Rattle.tower.specs.Tower.{tower, hi, lo, join, productOver, scaledSquare, normOver, inverseOver, bitProduct, pairProduct, pairInverse, nibbleProduct, nibbleInverse, byteProduct, byteInverse}
 use Rattle.tower.specs.Claims.{FieldLaws, PairLaws, NibbleLaws, ByteLaws}
-use Rattle.tower.proofs.Split.{hi-xor, lo-xor, join-xor, join-lt, hi-join, lo-join}
+use Rattle.tower.proofs.Split.{hi-xor, lo-xor, join-xor, hi-lt, lo-lt, join-lt, hi-join, lo-join, halves}
 
 module _ (k : ℕ) (times : ℕ → ℕ → ℕ) (one : ℕ) (inv : ℕ → ℕ) (L : FieldLaws k times one inv) where
   pub left-distributive : (x y z : ℕ) → times (x ⊕ y) z ≡ times x z ⊕ times y z
@@ -19,7 +19,10 @@ module _ (k : ℕ) (times : ℕ → ℕ → ℕ) (one : ℕ) (inv : ℕ → ℕ)
   left-commutative : (x y z : ℕ) → times x (times y z) ≡ times y (times x z)
   left-commutative x y z = sym (L .associative x y z) ∙ ap (λ (w : ℕ). times w z) (L .commutative x y) ∙ L .associative y x z
 
-  module _ (nu : ℕ) (norm-pos : (x : ℕ) → 0 < x → x < 2 ^ (k + k) → 0 < normOver k times nu x) (zeros : inverseOver k times nu inv 0 ≡ 0) where
+  by-zero : (x : ℕ) → times x 0 ≡ 0
+  by-zero x = ap (times x) (sym (self 0)) ∙ L .distributive x 0 0 ∙ self (times x 0)
+
+  module _ (nu : ℕ) (one-lt : one < 2 ^ k) (norm-pos : (x : ℕ) → 0 < x → x < 2 ^ (k + k) → 0 < normOver k times nu x) (zeros : inverseOver k times nu inv 0 ≡ 0) where
     part-lt : (a b c d : ℕ) → times a b ⊕ times c d < 2 ^ k
     part-lt a b c d = lt k (times a b) (times c d) (L .bounded a b) (L .bounded c d)
 
@@ -69,6 +72,13 @@ module _ (k : ℕ) (times : ℕ → ℕ → ℕ) (one : ℕ) (inv : ℕ → ℕ)
         let e : times (normOver k times nu x) b ≡ one = L .inverse (normOver k times nu x) (norm-pos x p h) (norm-lt x) in
         simp (e1, e0) (ap₂ (join k) (half (hi k x) (lo k x) b ∙ e) (half′ (hi k x) (lo k x) b ∙ e))
 
+    -- the halves of one are equal, so that their sum is zero and each half is multiplied by one
+    by-one : (x : ℕ) → x < 2 ^ (k + k) → productOver k times nu (join k one one) x ≡ x
+    unfolding productOver
+    by-one x h =
+        let nothing : (y : ℕ) → times (one ⊕ one) y ≡ 0 = λ y. ap (λ (z : ℕ). times z y) (self one) ∙ L .commutative 0 y ∙ by-zero y in
+        simp (hi-join k one one one-lt one-lt, lo-join k one one one-lt, nothing, by-zero, L .neutral, hi-lt, lo-lt, zero-r) (halves k x h)
+
     pub up : FieldLaws (k + k) (productOver k times nu) (join k one one) (inverseOver k times nu inv)
     unfolding productOver
     up = record {
@@ -76,6 +86,7 @@ module _ (k : ℕ) (times : ℕ → ℕ → ℕ) (one : ℕ) (inv : ℕ → ℕ)
       commutative = λ x y. simp (L .commutative);
       distributive = λ x y z. simp (hi-xor, lo-xor, L .distributive, join-xor, lt, L .bounded, sums);
       associative = associates;
+      neutral = by-one;
       inverse = by-inverse;
       inverseOfZero = zeros;
     }
@@ -100,6 +111,7 @@ bitLaws = record {
   commutative = λ x y. mul-comm (x % 2) (y % 2);
   distributive = λ x y z. ap (λ (n : ℕ). x % 2 * n) (xor-mod y z 1 ∙ sym (mod-eq-of-lt (lt 1 (y % 2) (z % 2) (low y) (low z)))) ∙ bit-distributive (x % 2) (y % 2) (z % 2) (low x) (low y) (low z);
   associative = λ x y z. ap (λ (n : ℕ). n * (z % 2)) (cut x y) ∙ mul-assoc (x % 2) (y % 2) (z % 2) ∙ ap (λ (n : ℕ). x % 2 * n) (sym (cut y z));
+  neutral = λ x h. one-mul (x % 2) ∙ mod-eq-of-lt h;
   inverse = λ x p h. let e : x ≡ 1 = omega arith in ap (λ (n : ℕ). n % 2 * (n % 2)) e;
   inverseOfZero = refl;
 }
@@ -111,7 +123,7 @@ positive n f t (suc x) p h = ltb→lt 0 (f (suc x)) (all-at (n - 1) (λ a. ltb 0
 
 pairs : FieldLaws 2 pairProduct 3 (inverseOver 1 bitProduct 1 (λ x. x))
 unfolding tower field
-pairs = up 1 bitProduct 1 (λ x. x) bitLaws 1 (positive 4 (normOver 1 bitProduct 1) tt) refl
+pairs = up 1 bitProduct 1 (λ x. x) bitLaws 1 (omega arith) (positive 4 (normOver 1 bitProduct 1) tt) refl
 
 -- inverting a pair exchanges its bits
 exchanged : (x : ℕ) → x < 4 → inverseOver 1 bitProduct 1 (λ x. x) x ≡ pairInverse x
@@ -141,14 +153,15 @@ pairLaws = record {
   commutative = pairs .commutative;
   distributive = pairs .distributive;
   associative = pairs .associative;
+  neutral = pairs .neutral;
   inverse = λ x p h. ap (pairProduct x) (sym (exchanged x h)) ∙ pairs .inverse x p h;
   inverseOfZero = refl;
 }
 
 pub nibbleLaws : NibbleLaws
 unfolding nibbleProduct nibbleInverse join
-nibbleLaws = up 2 pairProduct 3 pairInverse pairLaws 2 nibble-norm nibble-zero
+nibbleLaws = up 2 pairProduct 3 pairInverse pairLaws 2 (omega arith) nibble-norm nibble-zero
 
 pub byteLaws : ByteLaws
 unfolding byteProduct byteInverse join
-byteLaws = up 4 nibbleProduct 0xf nibbleInverse nibbleLaws 1 byte-norm byte-zero
+byteLaws = up 4 nibbleProduct 0xf nibbleInverse nibbleLaws 1 (omega arith) byte-norm byte-zero

@@ -12,6 +12,7 @@ pub record FieldLaws (k : ℕ) (times : ℕ → ℕ → ℕ) (one : ℕ) (inv : 
   pub commutative : (x y : ℕ) → times x y ≡ times y x
   pub distributive : (x y z : ℕ) → times x (y ⊕ z) ≡ times x y ⊕ times x z
   pub associative : (x y z : ℕ) → times (times x y) z ≡ times x (times y z)
+  pub neutral : (x : ℕ) → x < 2 ^ k → times one x ≡ x
   pub inverse : (x : ℕ) → 0 < x → x < 2 ^ k → times x (inv x) ≡ one
   pub inverseOfZero : inv 0 ≡ 0
 
@@ -57,9 +58,9 @@ Elements =
 abbrev pub ChangesInverse : Type 0
 ChangesInverse = (a : ℕ) → a < 256 → (fromTower (toTower a) ≡ a) × (toTower (fromTower a) ≡ a)
 
--- the tower is the AES field
+-- the tower is the AES field: the sum of two bytes is carried to the sum, and the product to the product
 abbrev pub TowerIsField : Type 0
-TowerIsField = (a b : ℕ) → a < 256 → b < 256 → toTower (a • b) ≡ byteProduct (toTower a) (toTower b)
+TowerIsField = (a b : ℕ) → a < 256 → b < 256 → (toTower (a ⊕ b) ≡ toTower a ⊕ toTower b) × (toTower (a • b) ≡ byteProduct (toTower a) (toTower b))
 
 -- a record of good form: bytes, the third at most 3
 pub record Good (ρ : Record) : Type 0 where
