@@ -12,11 +12,11 @@ pub fn add(state: &mut [u8], rooms: &mut [u8], strip: &[u8]) -> Outcome
     ensures { λ r. ⌜ (outcome r, (now (state .exit), now (rooms .exit))) ≡ addOf (now (state .entry)) (now (rooms .entry)) (now (strip .entry)) ⌝ }
 {
     let checked = checks::add(state, rooms.len(), strip);
-    match checked {
-        Outcome::Done => steps::add(state, rooms, strip),
-        Outcome::Refused(_) => {}
-    }
-    checked
+    let Outcome::Done = checked else {
+        return checked;
+    };
+    steps::add(state, rooms, strip);
+    Outcome::Done
 }
 
 // The lowest strip is taken, and the message of it is outstanding; alone, it is handed out at once.
@@ -24,11 +24,11 @@ pub fn take(state: &mut [u8], rooms: &mut [u8], number: &mut [u8], strip: &mut [
     ensures { λ r. ⌜ (outcome r, (now (state .exit), (now (rooms .exit), (now (number .exit), now (strip .exit))))) ≡ takeOf (now (state .entry)) (now (rooms .entry)) (now (number .entry)) (now (strip .entry)) ⌝ }
 {
     let checked = checks::take(state, rooms.len(), number.len(), strip.len());
-    match checked {
-        Outcome::Done => steps::take(state, rooms, number, strip),
-        Outcome::Refused(_) => {}
-    }
-    checked
+    let Outcome::Done = checked else {
+        return checked;
+    };
+    steps::take(state, rooms, number, strip);
+    Outcome::Done
 }
 
 // An acknowledgement has come. Only that of the outstanding number counts; any other changes nothing.
@@ -48,9 +48,9 @@ pub fn acknowledge(
         number.len(),
         strip.len(),
     );
-    match checked {
-        Outcome::Done => steps::acknowledge(state, rooms, acknowledgement, number, strip),
-        Outcome::Refused(_) => {}
-    }
-    checked
+    let Outcome::Done = checked else {
+        return checked;
+    };
+    steps::acknowledge(state, rooms, acknowledgement, number, strip);
+    Outcome::Done
 }

@@ -165,6 +165,5 @@ module _ {X : Type 0} (checks : List (ℕ × Bool)) (lent new : X) (v : Outcome)
   pub call-refused : (r : Refusal) → v ≡ Refused r → _≡_ {A = Answer (Unit {0}) × X} (outcome v, lent) (first checks (λ r. (refused r, lent)) (done tt, new))
   call-refused r f = ap (λ (x : Answer (Unit {0})). (x, lent)) (ap outcome f) ∙ one-failed (λ r. (refused r, lent)) (done tt, new) tt checks (outcome v) r e (ap outcome f)
 
-  module _ (f : v ≡ Done) where
-    pub call-done : (x : X) → x ≡ new → _≡_ {A = Answer (Unit {0}) × X} (outcome v, x) (first checks (λ r. (refused r, lent)) (done tt, new))
-    call-done x h = ap (λ (y : Answer (Unit {0})). (y, x)) (ap outcome f) ∙ ap (λ (y : X). (done tt, y)) h ∙ all-passed (λ r. (refused r, lent)) (done tt, new) tt checks (outcome v) tt e (ap outcome f) .0
+  pub call-done : v ≡ Done → (x : X) → x ≡ new → _≡_ {A = Answer (Unit {0}) × X} (done tt, x) (first checks (λ r. (refused r, lent)) (done tt, new))
+  call-done f x h = ap (λ (y : X). (done tt, y)) h ∙ all-passed (λ r. (refused r, lent)) (done tt, new) tt checks (outcome v) tt e (ap outcome f) .0

@@ -76,9 +76,9 @@ pub fn outstanding(state: &[u8], rooms: &[u8], message: &mut [u8]) -> Outcome
     ensures { λ r. ⌜ (outcome r, now (message .exit)) ≡ outstandingOf (now (state .entry)) (now (rooms .entry)) (now (message .entry)) ⌝ }
 {
     let checked = checks::outstanding(state, rooms.len(), message.len());
-    match checked {
-        Outcome::Done => write_message(state, rooms, message),
-        Outcome::Refused(_) => {}
-    }
-    checked
+    let Outcome::Done = checked else {
+        return checked;
+    };
+    write_message(state, rooms, message);
+    Outcome::Done
 }

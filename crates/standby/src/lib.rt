@@ -65,11 +65,11 @@ pub fn apply(
     ensures { λ r. ⌜ (outcome r, (now (state .exit), (now (rooms .exit), now (acknowledgement .exit)))) ≡ applyOf (now (state .entry)) (now (rooms .entry)) (now (message .entry)) (now (acknowledgement .entry)) ⌝ }
 {
     let checked = checks::apply(state, rooms.len(), message, acknowledgement.len());
-    match checked {
-        Outcome::Done => apply_message(state, rooms, message, acknowledgement),
-        Outcome::Refused(_) => {}
-    }
-    checked
+    let Outcome::Done = checked else {
+        return checked;
+    };
+    apply_message(state, rooms, message, acknowledgement);
+    Outcome::Done
 }
 
 fn write_alone(state: &mut [u8])
@@ -85,9 +85,9 @@ pub fn go_alone(state: &mut [u8]) -> Outcome
     ensures { λ r. ⌜ (outcome r, now (state .exit)) ≡ goAloneOf (now (state .entry)) ⌝ }
 {
     let checked = checks::go_alone(state);
-    match checked {
-        Outcome::Done => write_alone(state),
-        Outcome::Refused(_) => {}
-    }
-    checked
+    let Outcome::Done = checked else {
+        return checked;
+    };
+    write_alone(state);
+    Outcome::Done
 }

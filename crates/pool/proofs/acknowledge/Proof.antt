@@ -11,14 +11,18 @@ acknowledge-requires c κs = search needs
 enum-told : tie.Need-enum-told
 enum-told c = search needs
 
-acknowledge-requires-2 : tie.Need-acknowledge-requires-2
-acknowledge-requires-2 c κs = call-passes _ _ (c .before .before .before .before .before .before .acknowledge .ensures) (c .before .before .before .before .enum-told .given .1)
-
 enum-told-2 : tie.Need-enum-told-2
 enum-told-2 c = search needs
 
 same-length : tie.Need-same-length
 same-length c = search needs
+
+returns : tie.Need-returns
+unfolding acknowledgeOf
+returns c = call-refused _ (c .before .before .before .before .before .before .before .before .before .args .state .now, (c .before .before .before .before .before .before .before .before .before .args .rooms .now, (c .before .before .before .before .before .before .before .before .before .args .number .now, c .before .before .before .before .before .before .before .before .before .args .strip .now))) _ _ (c .before .before .acknowledge .ensures) _ (c .enum-told2 .given .1)
+
+acknowledge-requires-2 : tie.Need-acknowledge-requires-2
+acknowledge-requires-2 c κs = call-passes _ _ (c .before .before .before .before .before .before .acknowledge .ensures) (c .before .before .before .before .enum-told .given .1)
 
 same-length-2 : tie.Need-same-length-2
 same-length-2 c = search needs
@@ -29,16 +33,12 @@ same-length-3 c = search needs
 same-length-4 : tie.Need-same-length-4
 same-length-4 c = search needs
 
-returns : tie.Need-returns
-unfolding acknowledgeOf
-returns c = call-done _ (c .before .before .before .before .before .before .before .before .before .before .before .before .before .before .before .before .before .before .before .before .before .before .args .state .now, (c .before .before .before .before .before .before .before .before .before .before .before .before .before .before .before .before .before .before .before .before .before .before .args .rooms .now, (c .before .before .before .before .before .before .before .before .before .before .before .before .before .before .before .before .before .before .before .before .before .before .args .number .now, c .before .before .before .before .before .before .before .before .before .before .before .before .before .before .before .before .before .before .before .before .before .before .args .strip .now))) _ _ (c .before .before .before .before .before .before .before .before .before .before .before .before .before .before .before .acknowledge .ensures) (c .before .before .before .before .before .before .before .before .before .before .before .before .before .enum-told .given .1) _ (c .before .before .before .before .before .before .before .before .acknowledge2 .ensures)
-
 same-length-5 : tie.Need-same-length-5
 same-length-5 c = search needs
 
 returns-2 : tie.Need-returns-2
 unfolding acknowledgeOf
-returns-2 c = call-refused _ (c .before .before .before .before .before .before .before .before .before .args .state .now, (c .before .before .before .before .before .before .before .before .before .args .rooms .now, (c .before .before .before .before .before .before .before .before .before .args .number .now, c .before .before .before .before .before .before .before .before .before .args .strip .now))) _ _ (c .before .before .acknowledge .ensures) _ (c .enum-told2 .given .1)
+returns-2 c = call-done _ (c .before .before .before .before .before .before .before .before .before .before .before .before .before .before .before .before .before .before .before .before .before .before .args .state .now, (c .before .before .before .before .before .before .before .before .before .before .before .before .before .before .before .before .before .before .before .before .before .before .args .rooms .now, (c .before .before .before .before .before .before .before .before .before .before .before .before .before .before .before .before .before .before .before .before .before .before .args .number .now, c .before .before .before .before .before .before .before .before .before .before .before .before .before .before .before .before .before .before .before .before .before .before .args .strip .now))) _ _ (c .before .before .before .before .before .before .before .before .before .before .before .before .before .before .before .acknowledge .ensures) (c .before .before .before .before .before .before .before .before .before .before .before .before .before .enum-told .given .1) _ (c .before .before .before .before .before .before .before .before .acknowledge2 .ensures)
 
 pub acknowledge-spec : {M : Type 1} → statement M
 acknowledge-spec =
@@ -46,12 +46,12 @@ acknowledge-spec =
     (tie.spec
     acknowledge-requires
     enum-told
-    acknowledge-requires-2
     enum-told-2
     same-length
+    returns
+    acknowledge-requires-2
     same-length-2
     same-length-3
     same-length-4
-    returns
     same-length-5
     returns-2)

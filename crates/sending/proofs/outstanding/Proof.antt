@@ -11,22 +11,22 @@ outstanding-requires c κs = search needs
 enum-told : tie.Need-enum-told
 enum-told c = search needs
 
-write-message-requires : tie.Need-write-message-requires
-write-message-requires c κs = call-passes _ _ (c .before .before .before .outstanding .ensures) (c .before .enum-told .given .1)
-
 enum-told-2 : tie.Need-enum-told-2
 enum-told-2 c = search needs
+
+returns : tie.Need-returns
+unfolding outstandingOf
+returns c = call-refused _ (c .before .before .before .before .before .before .args .message .now) _ _ (c .before .before .outstanding .ensures) _ (c .enum-told2 .given .1)
+
+write-message-requires : tie.Need-write-message-requires
+write-message-requires c κs = call-passes _ _ (c .before .before .before .outstanding .ensures) (c .before .enum-told .given .1)
 
 same-length : tie.Need-same-length
 same-length c = search needs
 
-returns : tie.Need-returns
-unfolding outstandingOf
-returns c = call-done _ (c .before .before .before .before .before .before .before .before .before .before .args .message .now) _ _ (c .before .before .before .before .before .before .outstanding .ensures) (c .before .before .before .before .enum-told .given .1) _ (c .before .before .write-message .ensures)
-
 returns-2 : tie.Need-returns-2
 unfolding outstandingOf
-returns-2 c = call-refused _ (c .before .before .before .before .before .before .args .message .now) _ _ (c .before .before .outstanding .ensures) _ (c .enum-told2 .given .1)
+returns-2 c = call-done _ (c .before .before .before .before .before .before .before .before .before .before .args .message .now) _ _ (c .before .before .before .before .before .before .outstanding .ensures) (c .before .before .before .before .enum-told .given .1) _ (c .before .before .write-message .ensures)
 
 pub outstanding-spec : {M : Type 1} → statement M
 outstanding-spec =
@@ -34,8 +34,8 @@ outstanding-spec =
     (tie.spec
     outstanding-requires
     enum-told
-    write-message-requires
     enum-told-2
-    same-length
     returns
+    write-message-requires
+    same-length
     returns-2)

@@ -11,14 +11,18 @@ apply-requires c κs = search needs
 enum-told : tie.Need-enum-told
 enum-told c = search needs
 
-apply-message-requires : tie.Need-apply-message-requires
-apply-message-requires c κs = call-passes _ _ (c .before .before .before .before .before .apply .ensures) (c .before .before .before .enum-told .given .1)
-
 enum-told-2 : tie.Need-enum-told-2
 enum-told-2 c = search needs
 
 same-length : tie.Need-same-length
 same-length c = search needs
+
+returns : tie.Need-returns
+unfolding applyOf
+returns c = call-refused _ (c .before .before .before .before .before .before .before .before .args .state .now, (c .before .before .before .before .before .before .before .before .args .rooms .now, c .before .before .before .before .before .before .before .before .args .acknowledgement .now)) _ _ (c .before .before .apply .ensures) _ (c .enum-told2 .given .1)
+
+apply-message-requires : tie.Need-apply-message-requires
+apply-message-requires c κs = call-passes _ _ (c .before .before .before .before .before .apply .ensures) (c .before .before .before .enum-told .given .1)
 
 same-length-2 : tie.Need-same-length-2
 same-length-2 c = search needs
@@ -26,16 +30,12 @@ same-length-2 c = search needs
 same-length-3 : tie.Need-same-length-3
 same-length-3 c = search needs
 
-returns : tie.Need-returns
-unfolding applyOf
-returns c = call-done _ (c .before .before .before .before .before .before .before .before .before .before .before .before .before .before .before .before .before .before .args .state .now, (c .before .before .before .before .before .before .before .before .before .before .before .before .before .before .before .before .before .before .args .rooms .now, c .before .before .before .before .before .before .before .before .before .before .before .before .before .before .before .before .before .before .args .acknowledgement .now)) _ _ (c .before .before .before .before .before .before .before .before .before .before .before .before .apply .ensures) (c .before .before .before .before .before .before .before .before .before .before .enum-told .given .1) _ (c .before .before .before .before .before .before .apply-message .ensures)
-
 same-length-4 : tie.Need-same-length-4
 same-length-4 c = search needs
 
 returns-2 : tie.Need-returns-2
 unfolding applyOf
-returns-2 c = call-refused _ (c .before .before .before .before .before .before .before .before .args .state .now, (c .before .before .before .before .before .before .before .before .args .rooms .now, c .before .before .before .before .before .before .before .before .args .acknowledgement .now)) _ _ (c .before .before .apply .ensures) _ (c .enum-told2 .given .1)
+returns-2 c = call-done _ (c .before .before .before .before .before .before .before .before .before .before .before .before .before .before .before .before .before .before .args .state .now, (c .before .before .before .before .before .before .before .before .before .before .before .before .before .before .before .before .before .before .args .rooms .now, c .before .before .before .before .before .before .before .before .before .before .before .before .before .before .before .before .before .before .args .acknowledgement .now)) _ _ (c .before .before .before .before .before .before .before .before .before .before .before .before .apply .ensures) (c .before .before .before .before .before .before .before .before .before .before .enum-told .given .1) _ (c .before .before .before .before .before .before .apply-message .ensures)
 
 pub apply-spec : {M : Type 1} → statement M
 apply-spec =
@@ -43,11 +43,11 @@ apply-spec =
     (tie.spec
     apply-requires
     enum-told
-    apply-message-requires
     enum-told-2
     same-length
+    returns
+    apply-message-requires
     same-length-2
     same-length-3
-    returns
     same-length-4
     returns-2)
