@@ -1,10 +1,9 @@
 // Every operand, every length of a points buffer up to 200 and every third record byte, called once each: prints how many were answered, how many refused as
-// document 01 says with nothing lent changed, and how many did anything else.
+// the rules say with nothing lent changed, and how many did anything else.
 ghost use Prim.Native.Nat.{_≤_};
 ghost use lib.ListN.{length};
 use inversion::Masked;
 use libc::STDOUT_FILENO;
-use refusal::Refusal;
 use tower::Element;
 use tower::Record;
 
@@ -53,23 +52,11 @@ fn report(name: &[u8], t: Counts) {
     io::write_all(STDOUT_FILENO, b"\n");
 }
 
-fn number(r: Refusal) -> u8 {
-    match r {
-        Refusal::Operand(n) => n,
-        Refusal::Key(n) => n,
-        Refusal::Buffer(n) => n,
-        Refusal::Strip(n) => n,
-        Refusal::Direction(n) => n,
-        Refusal::Pool(n) => n,
-        Refusal::Message(n) => n,
-    }
-}
-
 fn element_outcome(e: Element) -> Outcome {
     match e {
         Element::Value(_) => Outcome::Answered,
         Element::Refused(r) => {
-            if number(r) == 1 {
+            if refusal::refusal_number(r) == 1 {
                 Outcome::Refused
             } else {
                 Outcome::Other
@@ -90,14 +77,14 @@ fn unchanged(buffer: &[u8]) -> bool {
 }
 
 // Whether a call refused with this number, and then left its buffer alone.
-fn masked_outcome(m: Masked, expected: u8, same: bool) -> Outcome {
+fn masked_outcome(m: Masked, expected: u32, same: bool) -> Outcome {
     match m {
         Masked::Byte(_, _) => Outcome::Answered,
         Masked::Refused(r) => {
             if !same {
                 return Outcome::Other;
             }
-            if number(r) == expected {
+            if refusal::refusal_number(r) == expected {
                 Outcome::Refused
             } else {
                 Outcome::Other
@@ -119,7 +106,7 @@ fn called(buffer: &mut [u8], n: usize, r: u8) -> Masked
 }
 
 // The same on a fresh buffer, which has to be refused with this number, if at all.
-fn fresh(n: usize, r: u8, expected: u8) -> Outcome
+fn fresh(n: usize, r: u8, expected: u32) -> Outcome
     requires { ⌜ n ≤ 200 ⌝ }
 {
     let mut buffer = [UNTOUCHED; 200];

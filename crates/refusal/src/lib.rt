@@ -13,6 +13,7 @@ pub enum Refusal {
     Direction(u8),
     Pool(u8),
     Message(u8),
+    Trace(u8),
 }
 
 pub enum Check {
@@ -108,6 +109,7 @@ pub fn refusal_number(refusal: Refusal) -> u32
         Refusal::Direction(n) => wide(n),
         Refusal::Pool(n) => wide(n),
         Refusal::Message(n) => wide(n),
+        Refusal::Trace(n) => wide(n),
     }
 }
 
