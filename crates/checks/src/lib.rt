@@ -140,10 +140,10 @@ fn fits_adding(master: State, number: u32, strip: &[u8]) -> bool
     ensures { λ r. ⌜ r ≡ fits master (sort.Adds 0 number) (now (strip .entry)) ⌝ }
 {
     let Outcome::Done = strip::check_own(strip) else {
-        return false;
+        return false; // of bad form
     };
     if state::wide(master.taken) + 64 <= state::wide(master.added) {
-        return false;
+        return false; // to a full pool
     }
     state::wide(number) == state::wide(master.added) + 1
 }

@@ -83,10 +83,10 @@ pub fn check_sending(master: State) -> Outcome
 pub fn role_sending(master: State, kind: u8) -> u8
     ensures { λ r. ⌜ r ≡ sending master kind ⌝ }
 {
-    if master.role == 4 {
-        return 4;
+    if master.role != 4 {
+        return kind;
     }
-    kind
+    4
 }
 
 pub fn counted(master: State, sequence: u32) -> bool
