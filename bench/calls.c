@@ -1,5 +1,6 @@
 #include "calls.h"
 
+#include <stdlib.h>
 #include <string.h>
 
 const struct library archive = {salcivorn_sbox, salcivorn_sbox_points, salcivorn_expand, salcivorn_block};
@@ -93,6 +94,12 @@ static void frame_strip(uint8_t *strip, size_t key_len)
         strip[third] &= 3;
 }
 
+void calls_expand(struct buffers *buffers, size_t key_len)
+{
+    if (salcivorn_expand(buffers->key, key_len, buffers->round_keys, round_keys_len(key_len)) != SALCIVORN_DONE)
+        abort();
+}
+
 void calls_fill(struct buffers *buffers, const struct call *call, unsigned long run)
 {
     fill_bytes(buffers, run);
@@ -100,7 +107,7 @@ void calls_fill(struct buffers *buffers, const struct call *call, unsigned long 
     if (call->kind != BLOCK)
         return;
     frame_strip(buffers->strip, call->key_len);
-    salcivorn_expand(buffers->key, call->key_len, buffers->round_keys, round_keys_len(call->key_len));
+    calls_expand(buffers, call->key_len);
 }
 
 uint32_t calls_make(const struct library *library, const struct call *call, struct buffers *buffers)

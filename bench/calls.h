@@ -45,6 +45,9 @@ struct buffers {
  * way; the others are pseudo-random. The round keys are those of the key. */
 void calls_fill(struct buffers *buffers, const struct call *call, unsigned long run);
 
+/* The round keys of the key; without them nothing that follows would mean anything, so a refusal ends the program. */
+void calls_expand(struct buffers *buffers, size_t key_len);
+
 uint32_t calls_make(const struct library *library, const struct call *call, struct buffers *buffers);
 
 #endif

@@ -46,7 +46,7 @@ static void fill_secret(const struct listing_case *listing, uint8_t secret)
     memcpy(bare, block, sizeof bare);
     memcpy(buffers.key, key, sizeof key);
     *(listing->place == IN_DATA ? bare : buffers.key) = secret;
-    salcivorn_expand(buffers.key, sizeof key, buffers.round_keys, SALCIVORN_ROUND_KEYS_SIZE_16);
+    calls_expand(&buffers, sizeof key);
     if (listing->unmasked)
         memset(buffers.mask, 0, sizeof buffers.mask);
     for (size_t i = 0; i < sizeof bare; i++)

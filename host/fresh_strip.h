@@ -4,20 +4,28 @@
 
 #include "salcivorn.h"
 
+#include <errno.h>
 #include <stdio.h>
 #include <stdlib.h>
 #include <string.h>
+#include <sys/random.h>
 
-/* Without random bytes there is no masking, so there is nothing to go on with. */
+/* Straight from the system into the lent bytes: a buffered stream leaves a copy of the strip in memory that it frees.
+ * Without random bytes there is no masking, so there is nothing to go on with. */
 static inline void random_bytes(uint8_t *bytes, size_t count)
 {
-    FILE *source = fopen("/dev/urandom", "rb");
+    while (count > 0) {
+        ssize_t got = getrandom(bytes, count, 0);
 
-    if (source == NULL || fread(bytes, 1, count, source) != count) {
-        fprintf(stderr, "no random source\n");
-        exit(1);
+        if (got < 0 && errno == EINTR)
+            continue;
+        if (got <= 0) {
+            fprintf(stderr, "no random source\n");
+            exit(1);
+        }
+        bytes += got;
+        count -= (size_t)got;
     }
-    fclose(source);
 }
 
 /* A strip for a 16-byte key: length 482, version 1, key size 16, then records with r from 0 to 3. */

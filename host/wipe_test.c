@@ -7,6 +7,7 @@
 #include "salcivorn.h"
 #include "tally.h"
 
+#include <stdlib.h>
 #include <string.h>
 #include <sys/mman.h>
 #include <sys/wait.h>
@@ -51,7 +52,8 @@ static int call_in_child(uint32_t direction, size_t key_len)
     pid_t child = fork();
 
     if (child == 0) {
-        salcivorn_expand(key, key_len, round_keys, round_keys_len);
+        if (salcivorn_expand(key, key_len, round_keys, round_keys_len) != SALCIVORN_DONE)
+            abort();
         _exit((int)salcivorn_block(direction, block, sizeof block, mask, sizeof mask, round_keys, round_keys_len,
                                    (uint8_t *)(uintptr_t)strip, strip_len(key_len)));
     }

@@ -2,7 +2,7 @@
  * libsalcivorn_pool.a, which all start with salcivorn_pool. A host links the archives it calls.
  *
  * A masked byte is two bytes that travel apart: the data, which is the secret plus its mask
- * (exclusive or), and the mask. No entry takes the mask off.
+ * (exclusive or), and the mask. No entry takes the mask off. Key and round keys are bare as yet.
  *
  * All entries keep these rules:
  * - A buffer is lent for the length of the call, as a pointer and a length in bytes.
@@ -83,38 +83,42 @@ enum salcivorn_pool_role {
 
 /* The fresh masks that the host makes.
  *
+ * The mask of a byte or block that goes in is the host's own: every bit of it must be uniform, drawn
+ * afresh for this call, and never used a second time. A mask that came out of a call serves once too:
+ * with the data it came with.
+ *
  * A record is three bytes for one S-box: Q in the high nibble and T in the low nibble; S; and r,
- * which is 0 to 3. All its bits must be random, and no record may serve twice.
+ * which is 0 to 3. All its bits must be uniform and fresh, and no record may serve twice.
  *
  * A strip is the records of one block: two bytes of length, high byte first, counting all that
  * follows; a version byte, 1; a key-size byte, 16, 24 or 32; then 160, 192 or 224 records.
  */
 
 /* One masked S-box (encrypting) or inverse S-box (decrypting).
- * Lent: data, 1 byte; mask, 1 byte; record, 3 bytes. Written when done: data and mask, with the
+ * Lent: data, 1 byte; mask, 1 byte, uniform, fresh and never used before; record, 3 bytes. Written when done: data and mask, with the
  * substituted byte under its new mask. Refusals in order: 13, 6, 2. */
 uint32_t salcivorn_sbox(uint32_t direction,
                         uint8_t *data, size_t data_len,
                         uint8_t *mask, size_t mask_len,
                         const uint8_t *record, size_t record_len);
 
-/* The same, and it also writes the 62 points of the masked inversion, point 1 first.
- * Refusals in order: 13, 6, 3, 2. */
+/* The same, and it also writes the 62 points of the masked inversion, point 1 first. The mask must be
+ * uniform, fresh and never used before here too. Refusals in order: 13, 6, 3, 2. */
 uint32_t salcivorn_sbox_points(uint32_t direction,
                                uint8_t *data, size_t data_len,
                                uint8_t *mask, size_t mask_len,
                                const uint8_t *record, size_t record_len,
                                uint8_t *points, size_t points_len);
 
-/* Key expansion, bare: neither key nor round keys are masked.
+/* Key expansion, bare: neither key nor round keys are masked, so whoever can probe this call can read the key.
  * Lent: key, 16, 24 or 32 bytes; round_keys, 176, 208 or 240 bytes. Written when done: all of
  * round_keys. Refusals in order: 4, 5. */
 uint32_t salcivorn_expand(const uint8_t *key, size_t key_len,
                           uint8_t *round_keys, size_t round_keys_len);
 
 /* One masked block, encrypting or decrypting.
- * Lent: block and mask, 16 bytes each; round_keys, as expansion gives them; strip, for the same
- * key size. Written when done: block and mask, with the answer under its new mask; and the strip,
+ * Lent: block and mask, 16 bytes each, every bit of the mask uniform, fresh and never used before;
+ * round_keys, as expansion gives them, bare; strip, for the same key size. Written when done: block and mask, with the answer under its new mask; and the strip,
  * which is wiped (version 0, all record bytes zero), so that it cannot serve again.
  * Refusals in order: 13, 6, 5, 7, 11, 8, 9, 12, 10. */
 uint32_t salcivorn_block(uint32_t direction,
@@ -141,6 +145,10 @@ uint32_t salcivorn_block(uint32_t direction,
  * Keep state and rooms once for each master, and never put an old copy back: a pool that forgot a
  * taking hands the same strip out again, and no strip may serve twice.
  *
+ * Nothing leaves a cabinet before it is stored. A message, an acknowledgement or a strip may go out, or
+ * be used for something that goes out, only once the state and rooms that the call left are stored
+ * where a power failure leaves them; and a cabinet that starts again starts from what it stored last.
+ *
  * A strip was handed out exactly when a take or an acknowledge is done and number is not 0. Its own
  * first two bytes say how long it is: salcivorn_block is lent that length + 2 bytes of the 676.
  *
@@ -149,7 +157,8 @@ uint32_t salcivorn_block(uint32_t direction,
  * without harm; that its bytes are not changed on the way is up to the host.
  */
 
-/* Adds a strip. At the active it is outstanding from then on.
+/* Adds a strip. At the active its message is outstanding from then on, to be sent once state and rooms
+ * are stored.
  * Lent: state; rooms; strip, for any of the three key sizes. Written when done: state; and the strip's
  * room, with the strip and zeros. The strip itself is only read: the host wipes its copy.
  * Refusals in order: 6 (also at a standby that is not alone), 23, 24, 7, 11, 8, 9, 12, 10, 14. A master
@@ -161,7 +170,8 @@ uint32_t salcivorn_pool_add(uint8_t *state, size_t state_len,
 /* Takes the strip with the lowest number.
  * Lent: state; rooms; number, 4 bytes; strip, 676 bytes. Written when done, at the active: state, and 0
  * in number; the strip stays in its room until acknowledge hands it out. Written when done, alone:
- * state, number and strip, which is handed out at once, and its room, which is zeroed.
+ * state, number and strip, which is handed out at once, and its room, which is zeroed: store state and
+ * rooms before the strip is used.
  * Refusals in order: 6 (also at a standby that is not alone), 23, 24, 15. A master that goes on alone
  * gets neither 23 nor 24. */
 uint32_t salcivorn_pool_take(uint8_t *state, size_t state_len,
@@ -169,7 +179,8 @@ uint32_t salcivorn_pool_take(uint8_t *state, size_t state_len,
                              uint8_t *number, size_t number_len,
                              uint8_t *strip, size_t strip_len);
 
-/* The outstanding message, to be sent; the same bytes as often as it is asked for, until acknowledged.
+/* The outstanding message, to be sent once the state and rooms it is made from are stored; the same
+ * bytes as often as it is asked for, until acknowledged.
  * Lent: state; rooms; message, 688 bytes. Written when done: message, with zeros behind it. Where
  * nothing is outstanding all of it is zero, so its length is 0. Refusal: 6. */
 uint32_t salcivorn_pool_outstanding(const uint8_t *state, size_t state_len,
@@ -180,7 +191,8 @@ uint32_t salcivorn_pool_outstanding(const uint8_t *state, size_t state_len,
  * is outstanding.
  * Lent: state; rooms; acknowledgement, the bytes that came; number, 4 bytes; strip, 676 bytes. Written
  * when done: 0 in number; where the answer counts, state; and where it counts for a taking, the taken
- * strip is handed out: number and strip are written and its room is zeroed.
+ * strip is handed out: number and strip are written and its room is zeroed. Store state and rooms
+ * before the strip is used.
  * Refusals in order: 6, 16 (the bytes are no acknowledgement). */
 uint32_t salcivorn_pool_acknowledge(uint8_t *state, size_t state_len,
                                     uint8_t *rooms, size_t rooms_len,
@@ -191,7 +203,7 @@ uint32_t salcivorn_pool_acknowledge(uint8_t *state, size_t state_len,
 /* Applies the active's message, at the standby. One that was applied before changes nothing and is
  * acknowledged again.
  * Lent: state; rooms; message, the bytes that came; acknowledgement, 8 bytes. Written when done:
- * acknowledgement, to be sent back once state and rooms are safe; and for the next message state and
+ * acknowledgement, to be sent back once state and rooms are stored; and for the next message state and
  * the strip's room.
  * Refusals in order: 6, 16 (the bytes are no addition and no taking; the message is beyond the next, or
  * it is the next and does not fit; any message at a master that is no standby or goes on alone). */
