@@ -1,11 +1,15 @@
-# make run: the known answers and the two C examples.   make test: what the gate runs.   make replay: the whole comparison with the second program.
+# make run: the known answers and the two C examples.   make quick: what a change touches.   make test: what the gate runs.
+# make replay: the whole comparison with the second program.
 # make bench: what a call costs, in executed instructions.   make trace: that every run of a call takes the same way.   make listing: that no register tells the secret.
-.PHONY: run test replay bench trace listing clean
+.PHONY: run quick test replay bench trace listing clean
 
 run:
 	@rt check known_answers salcivorn salcivorn_pool
 	@tests/build
-	@bash -c '. tests/tools.sh && $$RUN target/bin/known_answers crates/known_answers/data/vectors && $$RUN build/example && $$RUN build/pool_example'
+	@tests/run
+
+quick:
+	@tests/quick
 
 test:
 	@tests/gate
