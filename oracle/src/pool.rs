@@ -1,4 +1,4 @@
-//! One master's pool by request §8: a list of numbered strips, and counters of its own for each thing
+//! One master's pool by chapter 7 of the rules: a list of numbered strips, and counters of its own for each thing
 //! that is counted. The state and the rooms that a host lends are made from these and never read back.
 
 use crate::message::{self, Message};
@@ -216,7 +216,7 @@ impl Master {
         DONE
     }
 
-    /// What §8 says of each pool by itself: strips ever added equal those held plus those ever taken,
+    /// What rules 7.1 and 7.6 say of each pool by itself: strips ever added equal those held plus those ever taken,
     /// and those held have the numbers that follow the last one taken.
     pub fn check(&self) {
         assert_eq!(self.added, self.held.len() as u64 + self.taken, "added are not held and taken");

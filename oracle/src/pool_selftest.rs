@@ -1,5 +1,5 @@
 //! The oracle's checks of its pool: messages and states written out by hand, every moment of a cut, the
-//! refusals that §8 lists, and walks that reach every number of every call.
+//! refusals of rule 7.9, and walks that reach every number of every call.
 
 use crate::case::Told;
 use crate::message;

@@ -1,4 +1,4 @@
-//! The oracle's checks of itself: document 01's examples and edges, FIPS 197's vectors, the tower
+//! The oracle's checks of itself: worked examples and edges, FIPS 197's vectors, the tower
 //! against the AES field, masked calls against bare ones, the pool, and openssl where it is installed.
 
 use crate::aes;

@@ -1,6 +1,6 @@
 //! Random walks over two masters: strips added and taken, messages and acknowledgements lost, repeated
 //! and late, the active's power cut at any moment, the standby going on alone. After every step the
-//! walk holds the two masters against what §8 promises of them, and stops where it does not hold.
+//! walk holds the two masters against what chapter 7 of the rules promises of them, and stops where it does not hold.
 
 use crate::case::{some_defects, Told};
 use crate::case_block::{damaged_strip, good_records, KEY_SIZES};

@@ -1,4 +1,4 @@
--- What each call of a pool refuses, in request §8's order: the numbers, each with whether it applies.
+-- What each call of a pool refuses, in the order of rule 7.9: the numbers, each with whether it applies.
 use Prim.Native.Nat.{ℕ, suc, _-_}
 use mathlib.Core.List.{List, [], _∷_, _++_}
 use mathlib.Core.Bool.{Bool, true, false, not}
@@ -14,7 +14,7 @@ use Rattle.state.specs.declared.State.{State}
 use Rattle.state.specs.State.{standby, stateIn, sent, noState}
 use Rattle.master.specs.Master.{waiting, usedUp, noRoom, noneHeld, isStandby}
 
--- 6: state or rooms not lent as they must be; or a further part not of its size; for a strip handed out, its number not as four bytes or the strip not as 676
+-- 6, rule 7.10: state or rooms not lent as they must be; or a further part not of its size; for a strip handed out, its number not as four bytes or the strip not as 676
 unfoldable pub notLent : List ℕ → ℕ → Bool
 notLent st rooms = either (noState st) (isNot roomsSize rooms)
 
@@ -24,12 +24,12 @@ notLentWith size st rooms part = either (notLent st rooms) (isNot size part)
 unfoldable pub notLentOut : List ℕ → ℕ → ℕ → ℕ → Bool
 notLentOut st rooms number strip = either (notLentWith 4 st rooms number) (isNot 676 strip)
 
--- ---- adding, which a standby does not: "23, 24; the strip's own in document 01's order, 9 when its key size is none of the three, then 14"
+-- ---- adding, which a standby does not: 23 and 24, then the strip's own, then 14
 abbrev pub addChecks : List ℕ → ℕ → List ℕ → List (ℕ × Bool)
 addChecks st rooms s =
     (6, either (notLent st rooms) (isStandby (stateIn st))) ∷ (23, waiting (stateIn st)) ∷ (24, usedUp (stateIn st)) ∷ ownChecks s ++ ((14, noRoom (stateIn st)) ∷ [])
 
--- ---- taking: "23, 24; 15"
+-- ---- taking: 23 and 24, then 15
 abbrev pub takeChecks : List ℕ → ℕ → ℕ → ℕ → List (ℕ × Bool)
 takeChecks st rooms number strip =
     (6, either (notLentOut st rooms number strip) (isStandby (stateIn st))) ∷ (23, waiting (stateIn st)) ∷ (24, usedUp (stateIn st)) ∷ (15, noneHeld (stateIn st)) ∷ []
@@ -48,7 +48,7 @@ isAcknowledgement Unreadable = false
 abbrev pub acknowledgeChecks : List ℕ → ℕ → List ℕ → ℕ → ℕ → List (ℕ × Bool)
 acknowledgeChecks st rooms bytes number strip = (6, notLentOut st rooms number strip) ∷ (16, not (isAcknowledgement (readOf bytes))) ∷ []
 
--- ---- at the standby. What a message asks for does not fit where it "adds a strip of bad form, adds to a full pool, adds a number other than the last added plus 1, or takes a number that is not the lowest held"
+-- ---- at the standby. Rule 7.8: what a message adds must be of good form, find room and have the next number; what it takes must be the lowest held
 unfoldable pub fits : State → Message → List ℕ → Bool
 fits m (Adds k n) s = both (passes (ownChecks s)) (both (ltb (m .added - m .taken) 64) (eqb n (suc (m .added))))
 fits m (Takes k n) s = both (ltb (m .taken) (m .added)) (eqb n (suc (m .taken)))
@@ -67,7 +67,7 @@ sequence (Takes k n) = k
 sequence (Acknowledges k) = k
 sequence Unreadable = 0
 
--- 16: no standby or one that is alone, no message, "a message beyond the next, or a next one" that does not fit
+-- 16: no standby or one that is alone, no message, one beyond the next, or a next one that does not fit
 unfoldable pub notApplied : State → Message → List ℕ → Bool
 notApplied m x s =
     either (isNot standby (m .role))

@@ -18,7 +18,7 @@ roundsIn bytes = bytes / 16 - 1
 abbrev pub keySizeIn : ℕ → ℕ
 keySizeIn bytes = 4 * (roundsIn bytes - 6)
 
--- the refusals of a block call in their order: "block or mask not 16 bytes", round keys of "none of the three" lengths, then the strip's own
+-- rule 5.4: block or mask not 16 bytes, round keys of none of the three lengths, then the strip's own
 abbrev pub checks : ℕ → ℕ → ℕ → List ℕ → List (ℕ × Bool)
 checks d m w s =
     (6, either (isNot 16 d) (isNot 16 m)) ∷ (5, noneOf (176 ∷ 208 ∷ 240 ∷ []) w) ∷ blockChecks s (keySizeIn w)

@@ -1,4 +1,4 @@
--- Document 01, "Examples marked P": what the definitions compute, each beside what the document says.
+-- Worked examples, P1 to P14: what the definitions compute, each beside what it must be.
 use Prim.Native.Nat.{ℕ}
 use mathlib.Core.Path.{_≡_}
 use mathlib.Core.List.{List, [], _∷_, map}

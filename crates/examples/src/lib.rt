@@ -1,1 +1,1 @@
-// The examples marked P of document 01: one table and one statement, no code.
+// Fourteen worked examples, P1 to P14: one table and one statement, no code.

@@ -13,11 +13,11 @@ keyWords key = length key / 4
 abbrev pub keyRounds : List ℕ → ℕ
 keyRounds key = roundsFor (keyWords key)
 
--- 4: "key not 16, 24 or 32 bytes"
+-- 4: a key of another length than 16, 24 or 32
 abbrev pub wrongKey : List ℕ → Bool
 wrongKey key = noneOf (16 ∷ 24 ∷ 32 ∷ []) (length key)
 
--- 5: "round-key buffer: expanding, not the length for the key (176, 208, 240)", which is sixteen bytes for each round and sixteen before them
+-- 5: a buffer of another length than the key asks for: sixteen bytes for each round, and sixteen before them
 abbrev pub wrongBuffer : List ℕ → List ℕ → Bool
 wrongBuffer key w = isNot (16 * (keyRounds key + 1)) (length w)
 

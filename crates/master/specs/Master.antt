@@ -6,19 +6,19 @@ use Rattle.refusal.specs.Answer.{choose, either, both, isNot}
 use Rattle.state.specs.declared.State.{State}
 use Rattle.state.specs.State.{adding, taking, standby, alone, most, sent}
 
--- 23 "while an acknowledgement is outstanding"
+-- rule 7.7: 23, while an acknowledgement is outstanding
 unfoldable pub waiting : State → Bool
 waiting m = either (eqb (m .role) adding) (eqb (m .role) taking)
 
--- 24 "when sequence numbers are used up"; alone it falls away
+-- 24: sequence numbers are used up; alone it falls away
 unfoldable pub usedUp : State → Bool
 usedUp m = both (isNot alone (m .role)) (leb most (sent m))
 
--- 14 "exactly when 64 are held or strip numbers are used up"
+-- 14: no room is free, or strip numbers are used up
 unfoldable pub noRoom : State → Bool
 noRoom m = either (leb 64 (m .added - m .taken)) (leb most (m .added))
 
--- 15 "exactly when none is held"
+-- 15: none is held
 unfoldable pub noneHeld : State → Bool
 noneHeld m = leb (m .added) (m .taken)
 
@@ -30,6 +30,6 @@ isStandby m = eqb (m .role) standby
 unfoldable pub sending : State → ℕ → ℕ
 sending m kind = choose (eqb (m .role) alone) alone kind
 
--- "only the acknowledgement of its number counts"
+-- rule 7.2: only the acknowledgement of the outstanding number
 unfoldable pub counts : State → ℕ → Bool
 counts m k = both (waiting m) (eqb k (sent m))

@@ -1,4 +1,4 @@
--- What every event keeps, from the rules of request §8: how far the standby has followed, what each side holds and has handed out, and what is on the link. Assumes nothing.
+-- What every event keeps, from the rules of a pair: how far the standby has followed, what each side holds and has handed out, and what is on the link. Assumes nothing.
 use Prim.{Unit, tt}
 use Prim.Native.Nat.{ℕ, suc, _≤_, _<_}
 use native.Mathlib.Omega.{arith}

@@ -1,4 +1,4 @@
--- The mirrored pool of strips: what each master does, as request §8 has it, and the world of both with the link between them.
+-- The mirrored pool of strips: what each master does by the rules of chapter 7, and the world of both with the link between them.
 use Prim.Native.Nat.{ℕ, zero, suc}
 use mathlib.Core.List.{List, [], _∷_, _++_}
 use mathlib.Core.Bool.{Bool, true, false, not}
@@ -7,7 +7,7 @@ use lib.Dec.{leb, ltb, eqb}
 use Rattle.refusal.specs.declared.Refusal.{Refusal}
 use Rattle.refusal.specs.Answer.{first, passes, choose, either, both}
 
--- "Strip and sequence numbers stop at the largest 32-bit value"
+-- rule 7.7: where strip and sequence numbers end
 unfoldable pub most : ℕ
 most = 4294967295
 
@@ -28,11 +28,11 @@ abbrev pub rest : Strips → Strips
 rest [] = []
 rest (x ∷ l) = l
 
--- "each numbered once and upward from 1"
+-- rule 7.1: the next number is the strip's
 unfoldable pub put : List ℕ → Pool → Pool
 put s p = record { added = suc (p .added); taken = p .taken; held = p .held ++ ((suc (p .added), s) ∷ []) }
 
--- the lowest number taken
+-- and the lowest is taken
 unfoldable pub less : Pool → Pool
 less p = record { added = p .added; taken = suc (p .taken); held = rest (p .held) }
 
@@ -49,16 +49,16 @@ Checks = List (ℕ × Bool)
 unfoldable pub unless : {S : Type 0} → Checks → S → Said × S → Said × S
 unless checks state new = first checks (λ r. (refused r, state)) new
 
--- 14 "exactly when 64 are held or strip numbers are used up"
+-- rule 7.7: 14, no room is free or strip numbers are used up
 unfoldable pub noRoom : Pool → Bool
 noRoom p = either (leb 64 (length (p .held))) (leb most (p .added))
 
--- 15 "exactly when none is held"
+-- 15: none is held
 abbrev pub noneHeld : Strips → Bool
 noneHeld [] = true
 noneHeld (x ∷ l) = false
 
--- ---- the active master: "one message is outstanding at a time"
+-- ---- the active master, with one message outstanding at a time: rule 7.2
 pub data Out : Type 0 where
   nothing : Out
   adding : ℕ × List ℕ → Out
@@ -74,25 +74,25 @@ waiting nothing = false
 waiting (adding x) = true
 waiting (taking x) = true
 
--- "23 while an acknowledgement is outstanding; 24 when sequence numbers are used up"; own are the strip's own
+-- rule 7.9: 23 and 24 before all else; own are the strip's own
 unfoldable pub add : (List ℕ → Checks) → List ℕ → Active → Said × Active
 add own s a =
     unless ((23, waiting (a .out)) ∷ (24, leb most (a .sent)) ∷ own s ++ ((14, noRoom (a .pool)) ∷ [])) a
     (done, record { pool = put s (a .pool); sent = suc (a .sent); out = adding (suc (a .pool .added), s) })
 
--- "a taking counts from its sending"
+-- a taking counts from its sending, though the strip is not handed out yet
 unfoldable pub take : Active → Said × Active
 take a =
     unless ((23, waiting (a .out)) ∷ (24, leb most (a .sent)) ∷ (15, noneHeld (a .pool .held)) ∷ []) a
     (done, record { pool = less (a .pool); sent = suc (a .sent); out = taking (lowest (a .pool .held)) })
 
--- "a taken strip is handed out only when the standby's acknowledgement has come"
+-- rule 7.3: the acknowledgement of a taking hands the strip out
 abbrev pub settled : Out → Said
 settled nothing = done
 settled (adding x) = done
 settled (taking x) = handed x
 
--- "only the acknowledgement of its number counts"
+-- rule 7.2: another number changes nothing
 unfoldable pub acknowledge : ℕ → Active → Said × Active
 acknowledge k a = choose (eqb k (a .sent)) (settled (a .out), record { pool = a .pool; sent = a .sent; out = nothing }) (done, a)
 
@@ -123,7 +123,7 @@ abbrev pub lowestIs : ℕ → Strips → Bool
 lowestIs n [] = false
 lowestIs n (x ∷ l) = eqb n (x .0)
 
--- a next message that is not "one that adds a strip of bad form, adds to a full pool, adds a number other than the last added plus 1, or takes a number that is not the lowest held"
+-- rule 7.8: what a message adds must be of good form, find room and have the next number; what it takes must be the lowest held
 unfoldable pub fits : (List ℕ → Checks) → Pool → Message → Bool
 fits own p (adds k n s) = both (passes (own s)) (both (not (leb 64 (length (p .held)))) (eqb n (suc (p .added))))
 fits own p (takes k n) = lowestIs n (p .held)
@@ -132,12 +132,12 @@ unfoldable pub applyTo : Message → Pool → Pool
 applyTo (adds k n s) p = put s p
 applyTo (takes k n) p = less p
 
--- 16 "for any message once it goes on alone, and before that for a message beyond the next, or a next one" that does not fit
+-- 16: it goes on alone, or the message is beyond the next, or is the next and does not fit
 unfoldable pub notApplied : (List ℕ → Checks) → Message → Standby → Bool
 notApplied own m b =
     either (b .alone) (either (ltb (suc (b .applied)) (sequence m)) (both (eqb (sequence m) (suc (b .applied))) (not (fits own (b .pool) m))))
 
--- "One numbered below the next is acknowledged and changes nothing"
+-- rule 7.4: a message that was applied before changes nothing and is acknowledged again
 unfoldable pub receive : (List ℕ → Checks) → Message → Standby → Said × Standby
 receive own m b =
     unless ((16, notApplied own m b) ∷ []) b
@@ -146,14 +146,14 @@ receive own m b =
 unfoldable pub goAlone : Standby → Standby
 goAlone b = record { pool = b .pool; applied = b .applied; alone = true }
 
--- alone it is "handing out at once, sending nothing (23 and 24 fall away)"
+-- rule 7.5: alone it hands out at once and sends nothing, so that 23 and 24 fall away
 unfoldable pub addAlone : (List ℕ → Checks) → List ℕ → Pool → Said × Pool
 addAlone own s p = unless (own s ++ ((14, noRoom p) ∷ [])) p (done, put s p)
 
 unfoldable pub takeAlone : Pool → Said × Pool
 takeAlone p = unless ((15, noneHeld (p .held)) ∷ []) p (handed (lowest (p .held)), less p)
 
--- ---- the rules of a pair, with the strip's own checks, and those of request §8
+-- ---- the rules of a pair, with the strip's own checks; and those of chapter 7
 pub record Rules : Type 0 where
   pub own : List ℕ → Checks
   pub onAdd : List ℕ → Active → Said × Active

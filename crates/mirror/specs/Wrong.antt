@@ -1,4 +1,4 @@
--- Six pairs that each break one rule of request §8, and a run of each after which the safety theorem fails; the same runs with all rules kept. Proved in proofs/Wrong.antt.
+-- Six pairs that each break one rule, and a run of each after which the safety theorem fails; the same runs with all rules kept. Proved in proofs/Wrong.antt.
 use Prim.Native.Nat.{ℕ}
 use mathlib.Core.Path.{_≡_}
 use mathlib.Core.List.{List, [], _∷_}
@@ -12,7 +12,7 @@ use Rattle.mirror.specs.Claims.{Safe}
 abbrev pub good : List ℕ → Checks
 good s = []
 
--- the rules of request §8 but for what is done at a taking, at an acknowledgement and at a message
+-- all rules kept but for what is done at a taking, at an acknowledgement and at a message
 unfoldable pub but : (Active → Said × Active) → (ℕ → Active → Said × Active) → (Message → Standby → Said × Standby) → Rules
 but onTake onAcknowledgement onMessage = record {
   own = good;

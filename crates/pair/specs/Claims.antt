@@ -14,7 +14,7 @@ use Rattle.state.specs.State.{most, stateIn, gone, noState}
 use Rattle.rooms.specs.Rooms.{roomAt}
 use Rattle.pair.specs.Pair.{Cabinet, Cabinets, add, takeOut, acknowledge, apply, goAlone, outstanding, ran, messageIn, numberIn, messagesIn, standsFor}
 
--- the rules of request §8, with a strip's own checks
+-- the rules of a pair, with a strip's own checks
 abbrev pub rules : Rules
 rules = paper ownChecks
 

@@ -94,7 +94,7 @@ pub record Cabinets : Type 0 where
   pub given : Strips
   pub offered : Strips
 
--- "each numbered once and upward from 1"
+-- rule 7.1: the number that the next strip gets
 unfoldable pub nextNumber : Cabinet → ℕ
 nextNumber c = suc (stateIn (c .state) .added)
 

@@ -1,4 +1,4 @@
--- Document 01, the counts: how many of the 2^26 settings of the masks give a point a value.
+-- Rule 2.5, the counts: how many of the 2^26 settings of the masks give a point a value.
 use Prim.Native.Nat.{ℕ, zero, suc, _+_, _/_, _%_, _^_}
 use mathlib.Core.Bool.{Bool, true, false}
 use mathlib.Core.List.{List, [], _∷_}

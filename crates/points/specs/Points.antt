@@ -1,4 +1,4 @@
--- Document 01, "The 62 points": every step of the masked inversion, in the order given, mask first.
+-- Rule 2.3, the 62 points: every step of the masked inversion, in its order, mask first.
 use Prim.Native.Nat.{ℕ, _-_}
 use mathlib.Core.List.{List, [], _∷_, _++_}
 use lib.ListN.{getD}

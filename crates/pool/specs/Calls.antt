@@ -1,4 +1,4 @@
--- What each call of the active answers and leaves, for every state, all rooms and any bytes, as request §8 has it.
+-- What each call of the active answers and leaves, for every state, all rooms and any bytes: rules 7.1 to 7.3.
 use Prim.Native.Nat.{ℕ, _-_}
 use mathlib.Core.List.{List}
 use lib.ListN.{length}
@@ -30,7 +30,7 @@ takeOf st rooms number strip =
     first (takeChecks st (length rooms) (length number) (length strip)) (λ r. (refused r, (st, (rooms, (number, strip)))))
     (done tt, taken (stateIn st) rooms strip)
 
--- ---- "only the acknowledgement of its number counts"; one of a taking hands the strip out
+-- ---- an acknowledgement: only that of the outstanding number counts, and one of a taking hands the strip out
 unfoldable pub settle : State → List ℕ → List ℕ → List ℕ × (List ℕ × (List ℕ × List ℕ))
 settle m rooms strip = (stateBytes (withRole m active), choose (eqb (m .role) taking) (handing rooms (m .taken - 1)) (handingNone rooms strip))
 

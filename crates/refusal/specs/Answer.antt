@@ -26,7 +26,7 @@ outcome (Refused r) = refused r
 abbrev pub numbered : {L : Type 0} → Answer (Unit {0}) × L → ℕ × L
 numbered (a, lent) = (answerNumber a, lent)
 
--- "The first that applies is given": the refusal numbers in their order, each with whether it applies; what a refusal gives; and what is given where none applies
+-- rule 5.2, the first that applies is given: the refusal numbers in their order, each with whether it applies; what a refusal gives; and what is given where none applies
 unfoldable pub first : {X : Type 0} → List (ℕ × Bool) → (Refusal → X) → X → X
 first [] deny give = give
 first ((n, true) ∷ checks) deny give = deny (refusal n)

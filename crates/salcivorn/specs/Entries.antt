@@ -11,7 +11,7 @@ use Rattle.sbox.specs.Sbox.{enterData, enterMask, newByte, newMask, recordOf}
 use Rattle.expansion.specs.Expansion.{expansionOf}
 use Rattle.cipher.specs.Block.{blockOf}
 
--- 13: "direction neither 0 (encrypt) nor 1 (decrypt)"
+-- 13: neither 0, to encrypt, nor 1, to decrypt
 abbrev pub noDirection : ℕ → Bool
 noDirection n = noneOf (0 ∷ 1 ∷ []) n
 
@@ -19,11 +19,11 @@ unfoldable pub way : ℕ → Direction
 way zero = Encrypt
 way (suc n) = Decrypt
 
--- 6: "data byte or mask not lent as one byte each, or the record not as three"
+-- 6: data and mask not one byte each, or the record not three
 unfoldable pub notLent : ℕ → ℕ → ℕ → Bool
 notLent d m r = either (isNot 1 d) (either (isNot 1 m) (isNot 3 r))
 
--- the S-box: "writes its two answers back into the lent data byte and mask byte"
+-- the S-box: its answers stand in the lent data byte and mask byte
 unfoldable pub sboxOf : ℕ → List ℕ → List ℕ → List ℕ → ℕ × (List ℕ × List ℕ)
 sboxOf n d m r =
     numbered (first ((13, noDirection n) ∷ (6, notLent (length d) (length m) (length r)) ∷ (2, above 3 (recordOf r .r)) ∷ []) (λ x. (refused x, (d, m)))

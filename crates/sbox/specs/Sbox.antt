@@ -1,4 +1,4 @@
--- Document 01, "From inversion to block": the masked S-box and its inverse.
+-- Rules 4.1 to 4.3: the masked S-box and its inverse.
 use Prim.Native.Nat.{ℕ}
 use mathlib.Core.List.{List, [], _∷_}
 use lib.ListN.{length, getD}

@@ -1,4 +1,4 @@
--- What each call of the standby answers and leaves, for every state, all rooms and any bytes, as request §8 has it.
+-- What each call of the standby answers and leaves, for every state, all rooms and any bytes: rules 7.3 to 7.5.
 use Prim.Native.Nat.{ℕ}
 use mathlib.Core.List.{List}
 use lib.ListN.{length, drop}
@@ -19,7 +19,7 @@ applied m (Takes k n) s rooms = (stateBytes (oneTaken m standby), cleared rooms 
 applied m (Acknowledges k) s rooms = (stateBytes m, rooms)
 applied m Unreadable s rooms = (stateBytes m, rooms)
 
--- "One numbered below the next is acknowledged and changes nothing"
+-- a message that was applied before changes nothing and is acknowledged again
 abbrev pub answered : List ℕ → List ℕ → Message → List ℕ → List ℕ × (List ℕ × List ℕ)
 answered st rooms x s =
     let new = choose (leb (sequence x) (sent (stateIn st))) (st, rooms) (applied (stateIn st) x s rooms) in
@@ -30,6 +30,6 @@ applyOf st rooms bytes ack =
     first (applyChecks st (length rooms) bytes (length ack)) (λ r. (refused r, (st, (rooms, ack))))
     (done tt, answered st rooms (message.readOf bytes) (drop 12 bytes))
 
--- "the standby goes on alone from what it has applied"
+-- the standby goes on alone from what it has applied
 unfoldable pub goAloneOf : List ℕ → Answer (Unit {0}) × List ℕ
 goAloneOf st = first (goAloneChecks st) (λ r. (refused r, st)) (done tt, stateBytes (withRole (stateIn st) alone))

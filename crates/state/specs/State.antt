@@ -57,7 +57,7 @@ gone m = choose (eqb (m .role) taking) (m .taken - 1) (m .taken)
 unfoldable pub neverSent : State → Bool
 neverSent m = either (both (eqb (m .role) adding) (eqb (m .added) (m .taken))) (both (eqb (m .role) taking) (eqb (m .taken) 0))
 
--- "Strip and sequence numbers stop at the largest 32-bit value"; a master alone sends nothing
+-- rule 7.7: where sequence numbers end; a master alone sends nothing
 abbrev pub most : ℕ
 most = 4294967295
 

@@ -1,4 +1,4 @@
--- The edges that document 01 names, computed from the specification. Assumes nothing.
+-- Strips at the edges of what is refused, computed from the specification. Assumes nothing.
 use Prim.Native.Nat.{ℕ}
 use mathlib.Core.Path.{_≡_, refl}
 use mathlib.Core.List.{List, [], _∷_}
@@ -16,7 +16,7 @@ unfoldable computed : Unit {0}
 unfolding first badFraming spent unknownVersion wrongRecordBytes badThird wholeRecord wiped
 computed = tt
 
--- "third byte 3 passes, 4 is refused"; "A zero record is a valid record"
+-- a third byte of 3 passes and one of 4 is refused; a record of zeros is a good one
 third-3 : formOf (strip16 226 1 3) 16 ≡ done tt
 unfolding computed
 third-3 = refl
@@ -25,17 +25,17 @@ third-4 : formOf (strip16 226 1 4) 16 ≡ refused (Strip 10)
 unfolding computed
 third-4 = refl
 
--- "a strip of 484 bytes with length field 482 passes, with 484 it gets 7"
+-- a strip of 484 bytes has a length field of 482; one of 484 gets 7
 field-484 : formOf (strip16 228 1 3) 16 ≡ refused (Strip 7)
 unfolding computed
 field-484 = refl
 
--- "an empty strip gets 7"
+-- an empty strip gets 7
 empty : formOf [] 16 ≡ refused (Strip 7)
 unfolding computed
 empty = refl
 
--- "the same strip twice in a row gets 11 the second time"
+-- a strip that has served gets 11
 again : formOf (wiped (strip16 226 1 3)) 16 ≡ refused (Strip 11)
 unfolding computed
 again = refl

@@ -6,7 +6,7 @@ use lib.ListN.{length, getD, take, drop, set, replicate}
 use lib.Dec.{eqb, ltb}
 use Rattle.refusal.specs.Answer.{Answer, done, refused, first, above, either, both, isNot, noneOf}
 
--- "two bytes of length, big-endian, counting all that follows; one version byte; one key-size byte; then one record for each S-box"
+-- rule 3.2: how many bytes follow the length field, the version, the key size, and the number of record bytes
 abbrev pub lengthField : List ℕ → ℕ
 lengthField s = getD s 0 0 * 256 + getD s 1 0
 
@@ -31,23 +31,23 @@ abbrev pub some : {A : Type 0} → (A → Bool) → List A → Bool
 some p [] = false
 some p (x ∷ xs) = either (p x) (some p xs)
 
--- 7: "strip below 4 bytes, or its length field is not its size less 2"
+-- 7: too short for its first four bytes, or a length field that is not its size less 2
 unfoldable pub badFraming : List ℕ → Bool
 badFraming s = either (ltb (length s) 4) (isNot (length s - 2) (lengthField s))
 
--- 11: "strip version 0: spent"
+-- 11: spent
 unfoldable pub spent : List ℕ → Bool
 spent s = eqb (version s) 0
 
--- 8: "strip version neither 0 nor 1", 1 being the version of all forms
+-- 8: neither spent nor of the version of a form
 unfoldable pub unknownVersion : List ℕ → Bool
 unknownVersion s = not (either (eqb (version s) 0) (some (λ f. eqb (version s) (f .0)) forms))
 
--- 12: "number of record bytes wrong for the key size"
+-- 12: no form has this key size and this number of record bytes
 unfoldable pub wrongRecordBytes : List ℕ → Bool
 wrongRecordBytes s = not (some (sameForm (version s, (keySize s, recordBytes s))) forms)
 
--- 10: "some record's third byte above 3"
+-- 10: a record with a third byte above 3
 unfoldable pub badThird : List ℕ → Bool
 badThird [] = false
 badThird (a ∷ []) = false
@@ -80,15 +80,15 @@ abbrev pub unless : Bool → List ℕ → List ℕ
 unless true part = []
 unless false part = part
 
--- "Records count from 0, three bytes each from the strip's fifth byte"; nothing where the whole record is not there
+-- rule 3.4: the record of an index, from the fifth byte on; nothing where the whole record is not there
 unfoldable pub wholeRecord : List ℕ → ℕ → List ℕ
 wholeRecord s index = unless (ltb (length s) (4 + 3 * index + 3)) (take 3 (drop (4 + 3 * index) s))
 
--- "An empty part, with no number, is handed out exactly when 7, 8 or 11 applies to the strip or the whole three-byte record asked for is not there"
+-- nor where 7, 8 or 11 applies to the strip
 abbrev pub recordPart : List ℕ → ℕ → List ℕ
 recordPart s index =
     first ((7, badFraming s) ∷ (8, unknownVersion s) ∷ (11, spent s) ∷ []) (λ _. []) (wholeRecord s index)
 
--- "A strip that has served has version 0 and all record bytes zero; length and key size stay"
+-- rule 3.3: what is left of a strip that has served
 unfoldable pub wiped : List ℕ → List ℕ
 wiped s = take 4 (set s 2 0) ++ replicate (recordBytes s) 0

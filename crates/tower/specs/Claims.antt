@@ -25,7 +25,7 @@ NibbleLaws = FieldLaws 4 nibbleProduct 0xf nibbleInverse
 abbrev pub ByteLaws : Type 0
 ByteLaws = FieldLaws 8 byteProduct 0xff byteInverse
 
--- The elements of document 01 in the AES field, each with what it must be.
+-- The elements of rule 1.1 in the AES field, each with what it must be.
 abbrev W : ℕ
 W = 0xbd
 

@@ -1,4 +1,4 @@
--- Document 01, "The tower": pairs, nibbles and tower bytes, their products and inverses, and the two changes of basis.
+-- Chapter 1 of the rules, the tower: pairs, nibbles and tower bytes, their products and inverses, and the two changes of basis.
 -- A pair is a number below 4, a nibble below 16, a tower byte below 256; of a larger number an operation sees the low bits alone.
 use Prim.Native.Nat.{ℕ, _+_, _*_, _/_, _%_, _^_}
 use mathlib.Core.List.{List, [], _∷_}
