@@ -1,6 +1,6 @@
 pub mod Inversion
-pub mod Sum
 pub mod Total
 pub mod Stage
+pub mod Parts
 pub mod Counts
 pub mod Claims

@@ -1,23 +1,12 @@
 -- Rule 2.5, the counts: how many of the 2^26 settings of the masks give a point a value.
-use Prim.Native.Nat.{ℕ, zero, suc, _+_, _/_, _%_, _^_}
+use Prim.Native.Nat.{ℕ, _/_, _%_, _^_}
 use mathlib.Core.Bool.{Bool, true, false}
 use mathlib.Core.List.{List, [], _∷_}
-use lib.Dec.{eqb, ltb, leb}
+use lib.Dec.{eqb, leb}
 use Rattle.refusal.specs.Answer.{choose}
 use Rattle.fips197.specs.Field.{_⊕_}
+use Rattle.counting.specs.Counting.{count, share}
 use Rattle.points.specs.Points.{point}
-
--- how many numbers below n pass a test
-abbrev pub one : Bool → ℕ
-one true = 1
-one false = 0
-
-unfoldable pub sum : ℕ → (ℕ → ℕ) → ℕ
-sum zero f = 0
-sum (suc n) f = f n + sum n f
-
-unfoldable pub count : ℕ → (ℕ → Bool) → ℕ
-count n test = sum n (λ w. one (test w))
 
 -- A setting is a number below 2^26: M (8 bits), Q (4), r (2), T (4), S (8), from the top.
 unfoldable pub theM : ℕ → ℕ
@@ -58,11 +47,6 @@ table =
 abbrev pub within : ℕ → List (ℕ × ℕ) → Bool
 within n [] = false
 within n ((from, to) ∷ more) = choose (leb from n) (choose (leb n to) true (within n more)) (within n more)
-
--- how often a row has the value v: a value that is no nibble or no pair, never
-abbrev pub share : ℕ → ℕ → ℕ → ℕ → ℕ
-share values zeros others zero = zeros
-share values zeros others (suc v) = choose (ltb (suc v) values) others 0
 
 -- the table's number for point n and the value v
 abbrev pub listed : List Row → ℕ → ℕ → ℕ

@@ -1,13 +1,13 @@
--- Sums over the numbers below n: equal summands, a product of ranges, and that adding a number to the variable permutes it. Assumes nothing.
+-- Sums over the numbers below n: equal summands, a product of ranges, their order, and that adding a number to the variable permutes it. Assumes nothing.
 use mathlib.Core.Path.{_≡_, refl, sym, ap, ap₂, _∙_, subst}
 use Prim.Native.Nat.{ℕ, zero, suc, _+_, _*_, _/_, _%_, _^_, _<_}
-use native.Mathlib.Nat.{le-refl, le-trans, le-suc, add-zero, zero-add, add-suc, add-comm, add-assoc, suc-mul, zero-mul, mod-lt, mod-eq-of-lt, zero-lt-suc, pow-suc, div-lt-iff-lt-mul, div-add-mod'}
+use native.Mathlib.Nat.{le-refl, le-trans, le-suc, add-zero, zero-add, add-suc, add-comm, add-assoc, suc-mul, zero-mul, mul-zero, mod-lt, mod-eq-of-lt, zero-lt-suc, pow-suc, div-lt-iff-lt-mul, div-add-mod'}
 use native.Mathlib.Omega.{arith}
 use lib.Bits.{xor-block}
 use lib.Pow.{high, low}
 use Rattle.fips197.specs.Field.{_⊕_}
 use Rattle.tower.specs.Tower.{hi, lo}
-use Rattle.points.specs.Counts.{sum}
+use Rattle.counting.specs.Counting.{sum}
 
 pub sum-ext : (n : ℕ) (f g : ℕ → ℕ) → ((k : ℕ) → k < n → f k ≡ g k) → sum n f ≡ sum n g
 unfolding sum
@@ -26,7 +26,13 @@ unfolding sum
 sum-scale zero c f = omega arith
 sum-scale (suc n) c f = ap (λ (x : ℕ). c * f n + x) (sum-scale n c f) ∙ omega arith
 
-sum-add : (p n : ℕ) (f : ℕ → ℕ) → sum (p + n) f ≡ sum n (λ b. f (p + b)) + sum p f
+pub sum-by : (n c : ℕ) (f g : ℕ → ℕ) → ((k : ℕ) → f k ≡ c * g k) → sum n f ≡ c * sum n g
+sum-by n c f g h = sum-ext n f (λ k. c * g k) (λ k l. h k) ∙ sum-scale n c g
+
+pub const : (n c : ℕ) → sum n (λ x. c) ≡ n * c
+const n c = sum-each n (λ x. c) c (λ k l. refl)
+
+pub sum-add : (p n : ℕ) (f : ℕ → ℕ) → sum (p + n) f ≡ sum n (λ b. f (p + b)) + sum p f
 unfolding sum
 sum-add p zero f = ap (λ (x : ℕ). sum x f) (add-zero p) ∙ sym (zero-add (sum p f))
 sum-add p (suc n) f =
@@ -39,6 +45,17 @@ sum-split zero n f = ap (λ (x : ℕ). sum x f) (zero-mul n)
 sum-split (suc m) n f =
     ap (λ (x : ℕ). sum x f) (suc-mul m n) ∙ sum-add (m * n) n f
     ∙ ap (λ (x : ℕ). sum n (λ b. f (m * n + b)) + x) (sum-split m n f)
+
+sum-plus : (n : ℕ) (f g : ℕ → ℕ) → sum n (λ x. f x + g x) ≡ sum n f + sum n g
+unfolding sum
+sum-plus zero f g = refl
+sum-plus (suc n) f g = ap (λ (x : ℕ). f n + g n + x) (sum-plus n f g) ∙ omega arith
+
+-- the order of two sums does not matter
+pub sum-swap : (n m : ℕ) (f : ℕ → ℕ → ℕ) → sum n (λ x. sum m (λ y. f x y)) ≡ sum m (λ y. sum n (λ x. f x y))
+unfolding sum
+sum-swap zero m f = sym (sum-each m (λ y. 0) 0 (λ k l. refl) ∙ mul-zero m)
+sum-swap (suc n) m f = ap (λ (x : ℕ). sum m (λ y. f n y) + x) (sum-swap n m f) ∙ sym (sum-plus m (λ y. f n y) (λ y. sum n (λ x. f x y)))
 
 -- x ↦ x ⊕ j is a permutation of the numbers below 2 ^ n
 sum-flip : (f : ℕ → ℕ) (j : ℕ) → j < 2 → sum 2 (λ b. f (b ⊕ j)) ≡ sum 2 f
@@ -67,3 +84,13 @@ sum-halves k f =
     sum-split (2 ^ k) (2 ^ k) (λ x. f (hi k x) (lo k x))
     ∙ sum-ext (2 ^ k) _ _ (λ a l. sum-ext (2 ^ k) _ _ (λ b j.
     ap₂ f (ap (λ (x : ℕ). x % 2 ^ k) (high a k j) ∙ mod-eq-of-lt l) (low a k j)))
+
+pub sum-hi : (k : ℕ) (g : ℕ → ℕ) → sum (2 ^ k * 2 ^ k) (λ x. g (hi k x)) ≡ 2 ^ k * sum (2 ^ k) g
+sum-hi k g = sum-halves k (λ a b. g a) ∙ sum-by (2 ^ k) (2 ^ k) _ g (λ a. const (2 ^ k) (g a))
+
+pub sum-lo : (k : ℕ) (g : ℕ → ℕ) → sum (2 ^ k * 2 ^ k) (λ x. g (lo k x)) ≡ 2 ^ k * sum (2 ^ k) g
+sum-lo k g = sum-halves k (λ a b. g b) ∙ const (2 ^ k) (sum (2 ^ k) g)
+
+-- over three numbers at once
+abbrev pub sum3 : ℕ → (ℕ → ℕ → ℕ → ℕ) → ℕ
+sum3 n g = sum n (λ x. sum n (λ y. sum n (λ z. g x y z)))

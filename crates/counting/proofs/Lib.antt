@@ -1,0 +1,4 @@
+pub mod Sum
+pub mod Over
+pub mod Permute
+pub mod Shapes
