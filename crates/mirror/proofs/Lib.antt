@@ -2,3 +2,5 @@ pub mod Pools
 pub mod Kept
 pub mod Claims
 pub mod Wrong
+pub mod Unstored
+pub mod Restarts

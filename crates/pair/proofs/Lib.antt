@@ -6,3 +6,4 @@ pub mod Standby
 pub mod Alone
 pub mod Run
 pub mod Claims
+pub mod Restarts

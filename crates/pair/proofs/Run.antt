@@ -69,7 +69,7 @@ none-handed-out s c l = go (addOf (c .state) (c .rooms) s .0) where
   go (answer.refused r) = refl
 
 -- ---- each event
-abbrev Lifts : Cabinets → mirror.World → Type 0
+abbrev pub Lifts : Cabinets → mirror.World → Type 0
 Lifts c w = (standsFor c ≡ w) × Runs c
 
 module _ (c : Cabinets) (v : Runs c) where
@@ -154,7 +154,7 @@ module _ (c : Cabinets) (v : Runs c) where
   lifts-came [] h = (refl, v)
   lifts-came (bytes ∷ l) h = let e = number-is bytes (h .0 .0) (h .0 .1) (h .0 .2) in rw e (lifts-acknowledge bytes (h .0 .0) e)
 
-lifts : (c : Cabinets) → Runs c → (e : Event) → Lifts (ranStep c e) (step rules (standsFor c) e)
+pub lifts : (c : Cabinets) → Runs c → (e : Event) → Lifts (ranStep c e) (step rules (standsFor c) e)
 unfolding ranStep step paper standsFor
 lifts c v (adds-strip s) = lifts-add c v s
 lifts c v takes-strip = lifts-take c v
@@ -198,7 +198,7 @@ begins-same : standsFor begin ≡ mirror.start
 unfolding standsFor begin bare messagesIn numbersIn mirror.start
 begins-same = rw (bare-active, bare-standby) refl
 
-begins : Lifts begin mirror.start
+pub begins : Lifts begin mirror.start
 unfolding begin
 begins = (
   begins-same,
