@@ -15,6 +15,7 @@ enum {
     MAX_LENGTH = 1 << 18,
     SHIFTS = 8, /* buffers start at each of so many alignments in turn */
     LINES = 5, /* a case is told by what differs from the last one of its line */
+    CALLS = ENTRY_COUNT + 2, /* the entries, and what a host does by itself: store and restart */
     NUMBERS = 26 /* 0 to 24, and one for all that is no refusal number */
 };
 
@@ -31,8 +32,51 @@ struct expected {
 static struct expected lines[LINES];
 static struct expected *expected;
 static uint8_t lent[ENTRY_BUFFERS][GUARD + SHIFTS + MAX_LENGTH + GUARD];
-static unsigned long reached[ENTRY_COUNT][NUMBERS];
+static unsigned long reached[CALLS][NUMBERS];
 static struct tally tally;
+
+/* The master of each line as its host has stored it last. */
+static struct stored {
+    uint8_t state[SALCIVORN_POOL_STATE_SIZE];
+    uint8_t rooms[SALCIVORN_POOL_ROOMS_SIZE];
+} stored[LINES];
+
+static bool is_master(const struct loans *loans)
+{
+    return loans->length[0] == sizeof stored->state && loans->length[1] == sizeof stored->rooms;
+}
+
+static uint32_t store(const struct loans *loans)
+{
+    struct stored *master = &stored[expected - lines];
+
+    if (!is_master(loans))
+        return SALCIVORN_PART_LENGTH;
+    memcpy(master->state, loans->start[0], sizeof master->state);
+    memcpy(master->rooms, loans->start[1], sizeof master->rooms);
+    return SALCIVORN_DONE;
+}
+
+static uint32_t restart(const struct loans *loans)
+{
+    const struct stored *master = &stored[expected - lines];
+
+    if (!is_master(loans))
+        return SALCIVORN_PART_LENGTH;
+    memcpy(loans->start[0], master->state, sizeof master->state);
+    memcpy(loans->start[1], master->rooms, sizeof master->rooms);
+    return SALCIVORN_DONE;
+}
+
+static const struct entry host_steps[CALLS - ENTRY_COUNT] = {
+    {"store", 2, store, store, {0}},
+    {"restart", 2, restart, restart, {0}},
+};
+
+static const struct entry *entry_of(size_t call)
+{
+    return call < ENTRY_COUNT ? &entries[call] : &host_steps[call - ENTRY_COUNT];
+}
 
 static bool read_number(FILE *file, size_t bytes, uint64_t *number)
 {
@@ -78,7 +122,7 @@ static bool read_case(FILE *file)
 {
     uint64_t call, line, direction, number;
 
-    if (!read_number(file, 1, &call) || call < 1 || call > ENTRY_COUNT)
+    if (!read_number(file, 1, &call) || call < 1 || call > CALLS)
         return false;
     if (!read_number(file, 1, &line) || line >= LINES)
         return false;
@@ -88,7 +132,7 @@ static bool read_case(FILE *file)
     expected->call = (size_t)call - 1;
     expected->direction = (uint32_t)direction;
     expected->number = (uint32_t)number;
-    for (size_t i = 0; i < entries[expected->call].buffers; i++)
+    for (size_t i = 0; i < entry_of(expected->call)->buffers; i++)
         if (!read_buffer(file, i))
             return false;
     return true;
@@ -98,7 +142,7 @@ static struct loans lend(unsigned long turn)
 {
     struct loans loans = {.direction = expected->direction};
 
-    for (size_t i = 0; i < entries[expected->call].buffers; i++) {
+    for (size_t i = 0; i < entry_of(expected->call)->buffers; i++) {
         size_t length = expected->length[i];
         uint8_t *start = lent[i] + GUARD + (turn + i) % SHIFTS;
         memset(start - GUARD, GUARD_BYTE, GUARD);
@@ -120,7 +164,7 @@ static bool guard_stands(const uint8_t *guard)
 
 static bool as_expected(const struct loans *loans)
 {
-    for (size_t i = 0; i < entries[expected->call].buffers; i++) {
+    for (size_t i = 0; i < entry_of(expected->call)->buffers; i++) {
         const uint8_t *start = loans->start[i];
         size_t length = loans->length[i];
         if (memcmp(start, expected->after[i], length) != 0)
@@ -136,7 +180,7 @@ enum way { DIRECT, CHECKED, TURNS };
 
 static void run_case(unsigned long turn, enum way way)
 {
-    const struct entry *entry = &entries[expected->call];
+    const struct entry *entry = entry_of(expected->call);
     struct loans loans = lend(turn);
     bool checked = way == CHECKED || (way == TURNS && turn % 2 == 1);
     uint32_t number = checked ? entry->checked(&loans) : entry->direct(&loans);
@@ -159,6 +203,7 @@ static bool run_file(FILE *file, enum way way)
     if (!read_number(file, 8, &count))
         return false;
     memset(lines, 0, sizeof lines);
+    memset(stored, 0, sizeof stored);
     for (uint64_t turn = 0; turn < count; turn++) {
         if (!read_case(file))
             return false;
@@ -199,10 +244,10 @@ static void print_count(size_t number, unsigned long count)
 /* One line for each call: how often it gave which number. */
 static void print_reached(void)
 {
-    for (size_t call = 0; call < ENTRY_COUNT; call++) {
+    for (size_t call = 0; call < CALLS; call++) {
         if (!was_called(call))
             continue;
-        printf("%-16s", entries[call].name);
+        printf("%-16s", entry_of(call)->name);
         for (size_t number = 0; number < NUMBERS; number++)
             if (reached[call][number] > 0)
                 print_count(number, reached[call][number]);
@@ -214,15 +259,15 @@ static void demand_number(size_t call, uint32_t number)
 {
     char name[80];
 
-    snprintf(name, sizeof name, "%s never gave %u", entries[call].name, (unsigned)number);
+    snprintf(name, sizeof name, "%s never gave %u", entry_of(call)->name, (unsigned)number);
     tally_check(&tally, reached[call][number] > 0, name);
 }
 
 static void demand_every_number(size_t call)
 {
     demand_number(call, SALCIVORN_DONE);
-    for (size_t i = 0; i < ENTRY_REFUSALS && entries[call].refusals[i] != 0; i++)
-        demand_number(call, entries[call].refusals[i]);
+    for (size_t i = 0; i < ENTRY_REFUSALS && entry_of(call)->refusals[i] != 0; i++)
+        demand_number(call, entry_of(call)->refusals[i]);
 }
 
 int main(int count, char **words)
@@ -241,7 +286,7 @@ int main(int count, char **words)
             run_name(words[i], way);
     }
     print_reached();
-    for (size_t call = 0; every && call < ENTRY_COUNT; call++)
+    for (size_t call = 0; every && call < CALLS; call++)
         if (was_called(call))
             demand_every_number(call);
     return tally_report(&tally);

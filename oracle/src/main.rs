@@ -11,6 +11,7 @@ mod cipher;
 mod count;
 mod message;
 mod openssl;
+mod pair;
 mod points;
 mod pool;
 mod pool_call;

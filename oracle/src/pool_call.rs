@@ -17,6 +17,10 @@ pub enum Call {
     GoAlone = 10,
 }
 
+/// What the host does by itself, told like a call: it copies the state and the rooms, or puts the last copy back.
+pub const STORE: u8 = 11;
+pub const RESTART: u8 = 12;
+
 pub const CALLS: [Call; 6] = [Call::Add, Call::Take, Call::Outstanding, Call::Acknowledge, Call::Apply, Call::GoAlone];
 
 /// All buffers of a call, in the order of the C parameters; `given` is the strip, message or

@@ -1,10 +1,10 @@
-//! The oracle's checks of its pool: messages and states written out by hand, every moment of a cut, the
-//! refusals of rule 7.9, and walks that reach every number of every call.
+//! The oracle's checks of its pool: messages and states written out by hand, every moment of a cut, a restart
+//! with the rule broken and kept, the refusals of rule 7.9, and walks that reach every number of every call.
 
 use crate::case::Told;
 use crate::message;
-use crate::pool::{Master, Role, LAST_NUMBER, ROOM};
-use crate::pool_call::{Call, CALLS};
+use crate::pool::{Held, Master, Role, LAST_NUMBER, ROOM};
+use crate::pool_call::{Call, CALLS, RESTART, STORE};
 use crate::rng::Rng;
 use crate::show::hex;
 use crate::strip;
@@ -17,6 +17,7 @@ const STEPS: usize = 10_000;
 pub fn run(tally: &mut Tally, rng: &mut Rng) {
     by_hand(tally, rng);
     cuts(tally, rng);
+    stored_too_late_and_in_time(tally, rng);
     refused_at_the_standby(tally, rng);
     limits(tally, rng);
     strips_of_their_own(tally, rng);
@@ -72,6 +73,27 @@ fn cuts(tally: &mut Tally, rng: &mut Rng) {
         let handed = standby.take().ok().flatten().map(|held| held.number);
         tally.check(handed == Some(if applied { 9 } else { 8 }), "alone, the next strip");
         tally.check(standby.go_alone() == 0 && standby.role == Role::Alone, "alone already");
+    }
+}
+
+/// A message that leaves before the state that it comes from is stored, and the same run with the rule kept.
+/// The active restarts, and its taking gets the number of the addition: strip 1 is handed out by both.
+fn stored_too_late_and_in_time(tally: &mut Tally, rng: &mut Rng) {
+    for in_time in [false, true] {
+        let strips: Vec<Vec<u8>> = (0..4).map(|_| strip::make(16, rng)).collect();
+        let (mut active, mut standby) =
+            (Master::holding(Role::Active, 0, &strips[..3]), Master::holding(Role::Standby, 0, &strips[..3]));
+        let before = active.clone();
+        tally.check(active.add(&strips[3]) == 0, "a fourth strip is added");
+        tally.check(standby.apply(&active.message()[..496]).is_ok(), "its message is applied");
+        active = if in_time { active } else { before };
+        let (taken, length) = (active.take(), if in_time { 496 } else { 12 });
+        tally.check(taken == if in_time { Err(23) } else { Ok(None) }, "a taking after the restart");
+        let answer = standby.apply(&active.message()[..length]).unwrap_or_default();
+        let number = |handed: Result<Option<Held>, u32>| handed.ok().flatten().map(|held| held.number);
+        let handed = number(active.acknowledge(&answer));
+        tally.check(handed == if in_time { None } else { Some(1) }, "what the active hands out after the restart");
+        tally.check(standby.go_alone() == 0 && number(standby.take()) == Some(1), "alone, strip 1");
     }
 }
 
@@ -149,8 +171,8 @@ fn walks(tally: &mut Tally) {
             let kept = told.number == 0 || told.before == told.after;
             tally.check(kept, format!("call {} changes a byte on refusal {}", told.call, told.number));
         }
-        let all: BTreeSet<(u8, u32)> =
-            CALLS.iter().flat_map(|&call| numbers(call).iter().map(move |&number| (call as u8, number))).collect();
+        let mut all = BTreeSet::from([(STORE, 0), (RESTART, 0)]);
+        all.extend(CALLS.iter().flat_map(|&call| numbers(call).iter().map(move |&number| (call as u8, number))));
         tally.check(reached == all, format!("walk {seed} reaches every number of every call"));
         tally.check(no_number_left, format!("walk {seed} runs out of strip numbers"));
     }

@@ -1,17 +1,17 @@
 //! Random walks over two masters: strips added and taken, messages and acknowledgements lost, repeated
-//! and late, the active's power cut at any moment, the standby going on alone. After every step the
-//! walk holds the two masters against what chapter 7 of the rules promises of them, and stops where it does not hold.
+//! and late, both masters stored and started again at any moment, the active's power cut, the standby
+//! going on alone. After every step the walk holds the two masters against what chapter 7 of the rules promises, and
+//! stops where it does not hold.
 
 use crate::case::{some_defects, Told};
 use crate::case_block::{damaged_strip, good_records, KEY_SIZES};
-use crate::message;
+use crate::pair::Pair;
 use crate::pool::{Master, Role, LAST_NUMBER};
 use crate::pool_call::{self, Call, CALLS};
 use crate::refusal::DONE;
 use crate::rng::Rng;
 use crate::strip;
 use crate::walk_stray::{self, Odd};
-use std::collections::BTreeSet;
 
 /// The lines of a file in which the calls of each master stand.
 const ACTIVE_LINE: usize = 1;
@@ -23,76 +23,22 @@ const STRIP_ORDER: [u32; 6] = [7, 11, 8, 9, 12, 10];
 pub struct Walk {
     rng: Rng,
     pair: Pair,
+    /// Of ten calls that add or take, so many add.
+    additions: usize,
+    /// So many masters of a new pair are still to be stored for the first time.
+    unstored: usize,
     odd: Odd,
 }
 
-/// Two masters and all that was ever sent between them; no message is ever gone for good.
-struct Pair {
-    active: Master,
-    standby: Master,
-    cut: bool,
-    messages: Vec<Vec<u8>>,
-    acknowledgements: Vec<Vec<u8>>,
-    handed_out: BTreeSet<u64>,
-    /// Of ten calls that add or take, so many add.
-    additions: usize,
-}
-
-impl Pair {
-    fn new(rng: &mut Rng) -> Pair {
-        let (standby_role, cut, taken, count) = start(rng);
-        let strips: Vec<Vec<u8>> = (0..count).map(|_| good_strip(rng)).collect();
-        Pair {
-            active: Master::holding(Role::Active, if cut { 0 } else { taken }, if cut { &[] } else { &strips }),
-            standby: Master::holding(standby_role, taken, &strips),
-            cut,
-            messages: Vec::new(),
-            acknowledgements: Vec::new(),
-            handed_out: BTreeSet::new(),
-            additions: rng.pick(&[2, 5, 5, 5, 8, 9]),
-        }
-    }
-
-    /// What a call that is done has written is sent, or handed out: no number twice.
-    fn note(&mut self, call: Call, after: &[Vec<u8>]) {
-        match call {
-            Call::Take => self.note_handed_out(&after[2]),
-            Call::Acknowledge => self.note_handed_out(&after[3]),
-            Call::Apply => self.acknowledgements.push(after[3].clone()),
-            Call::Outstanding => {
-                let length = usize::from(u16::from_be_bytes([after[2][0], after[2][1]]));
-                if length > 0 {
-                    self.messages.push(after[2][..length + 2].to_vec());
-                }
-            }
-            Call::Add | Call::GoAlone => {}
-        }
-    }
-
-    fn note_handed_out(&mut self, bytes: &[u8]) {
-        let number = message::number(bytes);
-        assert!(number == 0 || self.handed_out.insert(number), "strip {number} is handed out twice");
-    }
-
-    /// What holds at any moment, for the cut may come at any moment: the standby offers no number that was
-    /// handed out, and it is one message behind at most, and not at all where nothing is outstanding.
-    fn check(&self) {
-        self.active.check();
-        self.standby.check();
-        let offered = self.standby.held.iter().map(|held| held.number).find(|number| self.handed_out.contains(number));
-        assert_eq!(offered, None, "the standby holds a strip that was handed out");
-        if self.standby.role == Role::Alone {
-            return;
-        }
-        let waits = self.active.outstanding.is_some();
-        if waits && self.active.sequence == self.standby.sequence + 1 {
-            return;
-        }
-        let counters = |master: &Master| (master.added, master.taken, master.sequence);
-        assert_eq!(counters(&self.active), counters(&self.standby), "the counters differ");
-        assert_eq!(self.active.held, self.standby.held, "the masters hold different strips");
-        assert!(waits || self.active.rooms() == self.standby.rooms(), "nothing is outstanding, and the rooms differ");
-    }
+/// A new pair of masters.
+fn new_pair(rng: &mut Rng) -> Pair {
+    let (standby_role, cut, taken, count) = start(rng);
+    let strips: Vec<Vec<u8>> = (0..count).map(|_| good_strip(rng)).collect();
+    let active = match cut {
+        true => Master::holding(Role::Active, 0, &[]),
+        false => Master::holding(Role::Active, taken, &strips),
+    };
+    Pair::new(active, Master::holding(standby_role, taken, &strips), cut)
 }
 
 /// How a pair starts: the standby's role, whether the active is gone, strips ever taken, strips held. New
@@ -131,39 +77,75 @@ fn earlier(sent: &[Vec<u8>], rng: &mut Rng) -> Vec<u8> {
     }
 }
 
+/// Of ten calls that add or take, so many add.
+fn additions(rng: &mut Rng) -> usize {
+    rng.pick(&[2, 5, 5, 5, 8, 9])
+}
+
+fn line(at_active: bool) -> usize {
+    if at_active { ACTIVE_LINE } else { STANDBY_LINE }
+}
+
 impl Walk {
     pub fn new(mut rng: Rng) -> Walk {
-        let (pair, odd) = (Pair::new(&mut rng), Odd::new(&mut rng));
-        Walk { rng, pair, odd }
+        let (pair, odd) = (new_pair(&mut rng), Odd::new(&mut rng));
+        Walk { additions: additions(&mut rng), rng, pair, unstored: 2, odd }
     }
 
-    /// One call, and the promises held against what it leaves.
+    /// One call, a storing or a restart, and the promises held against what it leaves.
     pub fn step(&mut self) -> Told {
-        if self.pair.standby.role == Role::Alone && self.rng.one_in(80) {
-            self.pair = Pair::new(&mut self.rng);
+        if self.is_alone() && self.rng.one_in(80) {
+            self.pair = new_pair(&mut self.rng);
+            self.additions = additions(&mut self.rng);
+            self.unstored = 2;
         }
-        self.pair.cut |= self.rng.one_in(if self.pair.active.sequence == LAST_NUMBER { 20 } else { 150 });
-        let told = match self.rng.below(100) {
-            0..=15 => self.stray(),
-            16..=31 => self.odd.call(&mut self.rng),
-            32..=36 => self.any_call(),
-            _ if self.pair.cut => self.after_the_cut(),
-            37..=74 => self.due(),
-            _ => self.out_of_turn(),
+        let told = match self.unstored {
+            0 => self.any_step(),
+            _ => self.store(self.unstored == 2),
         };
+        self.unstored = self.unstored.saturating_sub(1);
         self.pair.check();
         told
     }
 
+    fn any_step(&mut self) -> Told {
+        self.pair.cut |= self.rng.one_in(if self.pair.active.memory.sequence == LAST_NUMBER { 20 } else { 150 });
+        match self.rng.below(100) {
+            0..=14 => self.stray(),
+            15..=29 => self.odd.call(&mut self.rng),
+            30..=34 => self.any_call(),
+            35..=36 => self.restart(),
+            _ if self.pair.cut || self.is_alone() && self.rng.one_in(2) => self.after_the_cut(),
+            37..=74 => self.due(),
+            _ => self.out_of_turn(),
+        }
+    }
+
+    fn is_alone(&self) -> bool {
+        self.pair.standby.memory.role == Role::Alone
+    }
+
+    fn store(&mut self, at_active: bool) -> Told {
+        Told { line: line(at_active), ..self.pair.store(at_active) }
+    }
+
+    fn store_any(&mut self) -> Told {
+        let at_active = self.rng.one_in(2);
+        self.store(at_active)
+    }
+
+    /// Either master starts again; one whose power was cut does so less often.
+    fn restart(&mut self) -> Told {
+        let at_active = self.rng.one_in(if self.pair.cut { 20 } else { 2 });
+        Told { line: line(at_active), ..self.pair.restart(at_active) }
+    }
+
     /// A call that counts: the master goes on from what it leaves, and what it writes is sent.
     fn call(&mut self, at_active: bool, call: Call, given: &[u8]) -> Told {
-        let (master, line) = match at_active {
-            true => (&mut self.pair.active, ACTIVE_LINE),
-            false => (&mut self.pair.standby, STANDBY_LINE),
-        };
-        let told = Told { line, ..pool_call::make(master, call, given, &mut self.rng) };
+        let master = &mut self.pair.side(at_active).memory;
+        let told = Told { line: line(at_active), ..pool_call::make(master, call, given, &mut self.rng) };
         if told.number == DONE {
-            self.pair.note(call, &told.after);
+            self.pair.note(at_active, call, &told.after);
         }
         told
     }
@@ -181,11 +163,14 @@ impl Walk {
 
     /// What the masters do when nothing goes wrong.
     fn due(&mut self) -> Told {
-        let sent = match &self.pair.active.outstanding {
+        if self.pair.active.waits() || self.pair.standby.waits() {
+            return self.store(self.pair.active.waits());
+        }
+        let sent = match &self.pair.active.memory.outstanding {
             Some(sent) => sent,
             None => return self.add_or_take(true),
         };
-        if self.pair.standby.sequence == sent.sequence {
+        if self.pair.standby.memory.sequence == sent.sequence {
             let answer = self.pair.acknowledgements.last().cloned().unwrap_or_default();
             return self.call(true, Call::Acknowledge, &answer);
         }
@@ -197,23 +182,27 @@ impl Walk {
     }
 
     fn add_or_take(&mut self, at_active: bool) -> Told {
-        let adds = self.rng.below(10) < self.pair.additions;
+        let adds = self.rng.below(10) < self.additions;
         self.call_with_any(at_active, if adds { Call::Add } else { Call::Take })
     }
 
     /// Calls that are right for their master but come at any time, with bytes from any time.
     fn out_of_turn(&mut self) -> Told {
-        match self.rng.below(6) {
+        match self.rng.below(7) {
             0 | 1 => self.add_or_take(true),
             2 => self.call_with_any(true, Call::Outstanding),
             3 => self.call_with_any(true, Call::Acknowledge),
-            _ => self.call_with_any(false, Call::Apply),
+            4 | 5 => self.call_with_any(false, Call::Apply),
+            _ => self.store_any(),
         }
     }
 
     /// The active is gone. What is still under way arrives before the standby goes on alone, and after.
     fn after_the_cut(&mut self) -> Told {
-        let alone = self.pair.standby.role == Role::Alone;
+        let alone = self.is_alone();
+        if self.pair.standby.waits() && self.rng.one_in(2) {
+            return self.store(false);
+        }
         match self.rng.below(8) {
             0 => self.call_with_any(false, Call::Apply),
             1 => self.call_with_any(false, Call::Acknowledge),
@@ -234,10 +223,8 @@ impl Walk {
 
     /// A call at either master, or at a copy of it, that leaves the walk as it is.
     fn stray(&mut self) -> Told {
-        let (master, line) = match self.rng.one_in(2) {
-            true => (&self.pair.active, ACTIVE_LINE),
-            false => (&self.pair.standby, STANDBY_LINE),
-        };
+        let at_active = self.rng.one_in(2);
+        let (master, line) = (&self.pair.side(at_active).memory.clone(), line(at_active));
         if self.rng.one_in(2) {
             return walk_stray::refused(master, line, &mut self.rng);
         }

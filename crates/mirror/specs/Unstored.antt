@@ -1,4 +1,4 @@
--- Four hosts that each let one thing leave before the state that it comes from is stored, and runs after which number 1 is handed out twice; the same runs with hosts that keep the rule. Proved in proofs/Unstored.antt.
+-- Four hosts that each let one thing leave before the state and the rooms that it comes from are stored, and runs after which number 1 is handed out twice; the same runs with hosts that keep the rule. Proved in proofs/Unstored.antt.
 use mathlib.Core.Path.{_≡_}
 use mathlib.Core.List.{List, [], _∷_}
 use mathlib.Core.Bool.{true, false}
@@ -37,9 +37,9 @@ alone hs = stores-standby ∷ does takes-alone ∷ stores-standby ∷ does cuts 
 abbrev pub number-used-again : List Happening
 number-used-again = alone (stores-active ∷ does (answered 0) ∷ stores-active ∷ does takes-strip ∷ restarts-active ∷ stores-standby ∷ does (arrives 0) ∷ does sends ∷ does (adds-strip strip) ∷ entry)
 
--- the taking is acknowledged, and the standby restarts without it
+-- the taking is acknowledged and the strip handed out, and the standby restarts without the taking
 abbrev pub taking-forgotten : List Happening
-taking-forgotten = alone (stores-active ∷ does (answered 0) ∷ restarts-standby ∷ does (arrives 0) ∷ taking-sent)
+taking-forgotten = alone (restarts-standby ∷ stores-active ∷ does (answered 0) ∷ does (arrives 0) ∷ taking-sent)
 
 -- the strip is handed out, the active restarts waiting for the acknowledgement still, and it comes again
 abbrev pub answered-again : List Happening

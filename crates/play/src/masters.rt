@@ -24,6 +24,28 @@ pub fn new(role: u8) -> Master {
     }
 }
 
+// What the host of a master has stored last.
+pub struct Stored {
+    pub state: [u8; 9],
+    pub rooms: [u8; 43264],
+}
+
+pub fn store(master: Master) -> Stored {
+    let state = master.state;
+    let rooms = master.rooms;
+    Stored { state, rooms }
+}
+
+// It has lost power, and starts again from what was stored last.
+pub fn restart(master: Master, stored: Stored) -> Master {
+    let state = stored.state;
+    let rooms = stored.rooms;
+    let mut next = master;
+    next.state = state;
+    next.rooms = rooms;
+    next
+}
+
 // How long a strip is for keys of a size.
 fn size_of(key_size: u8) -> usize
     requires { ⌜ «key_size» ≤ 32 ⌝ }

@@ -3,7 +3,9 @@ use crate::link;
 use crate::link::Link;
 use crate::masters;
 use crate::masters::Master;
+use crate::masters::Stored;
 use crate::report;
+use crate::words;
 use crate::words::Word;
 
 // Which numbers were handed out, how many, and how many of them twice. A script has at most 65,536 characters and a taking takes five, so that every number has a place.
@@ -16,17 +18,22 @@ pub struct Tally {
 pub struct Play {
     pub active: Master,
     pub standby: Master,
+    pub active_stored: Stored,
+    pub standby_stored: Stored,
     pub messages: Link,
     pub acknowledgements: Link,
     pub tally: Tally,
     pub made: u32,
     pub power: bool,
+    pub hasty: bool,
 }
 
 pub fn new() -> Play {
     Play {
         active: masters::new(0),
         standby: masters::new(3),
+        active_stored: masters::store(masters::new(0)),
+        standby_stored: masters::store(masters::new(3)),
         messages: link::new(),
         acknowledgements: link::new(),
         tally: Tally {
@@ -36,6 +43,7 @@ pub fn new() -> Play {
         },
         made: 0,
         power: true,
+        hasty: false,
     }
 }
 
@@ -60,6 +68,28 @@ fn note(tally: Tally, number: u32) -> Tally {
     }
     next.seen = seen;
     next
+}
+
+// Something is about to leave a master: its host stores the master first. A hasty one does not, and it is said so. The states tell whether all is stored, since every call that changes the rooms changes the state, and none takes a count back.
+fn stored(master: Master, last: Stored, hasty: bool) -> Stored {
+    let state = master.state;
+    let old = last.state;
+    if words::same(&state, &old) {
+        return last;
+    }
+    if hasty {
+        report::text(b"not stored: ");
+        return last;
+    }
+    masters::store(master)
+}
+
+// The same for a strip, where one leaves.
+fn stored_strip(master: Master, last: Stored, hasty: bool) -> Stored {
+    if master.number == 0 {
+        return last;
+    }
+    stored(master, last, hasty)
 }
 
 // What a call answered, and the strip that it handed out, if it did.
@@ -95,6 +125,7 @@ fn take(play: Play) -> Play {
 fn standby_take(play: Play) -> Play {
     let standby = masters::take(play.standby);
     let mut next = play;
+    next.standby_stored = stored_strip(standby, play.standby_stored, play.hasty);
     next.tally = hand_out(play.tally, standby, b" by the standby, ");
     next.standby = standby;
     next
@@ -109,8 +140,9 @@ fn send(play: Play) -> Play {
         return play;
     }
     let messages = link::put(play.messages, &item);
-    report::sent(b"message ", messages.sent, item);
     let mut next = play;
+    next.active_stored = stored(active, play.active_stored, play.hasty);
+    report::sent(b"message ", messages.sent, item);
     next.messages = messages;
     next
 }
@@ -130,6 +162,7 @@ fn deliver(play: Play, n: u32) -> Play {
         report::answer(standby.answer);
         return next;
     }
+    next.standby_stored = stored(standby, play.standby_stored, play.hasty);
     let item = standby.item;
     let acknowledgements = link::put(play.acknowledgements, &item);
     report::sent(b"acknowledgement ", acknowledgements.sent, item);
@@ -147,6 +180,7 @@ fn answer(play: Play, n: u32) -> Play {
     let item = link::get(acknowledgements, n);
     let active = masters::acknowledge(play.active, item);
     let mut next = play;
+    next.active_stored = stored_strip(active, play.active_stored, play.hasty);
     next.tally = hand_out(play.tally, active, b" by the active, ");
     next.active = active;
     next
@@ -190,6 +224,14 @@ fn stock(play: Play, count: u32) -> Play {
     next
 }
 
+// What was stocked is stored, at both masters.
+fn store_both(play: Play) -> Play {
+    let mut next = play;
+    next.active_stored = masters::store(play.active);
+    next.standby_stored = masters::store(play.standby);
+    next
+}
+
 // The standby goes on alone.
 fn alone(play: Play, power: bool) -> Play {
     let standby = masters::go_alone(play.standby);
@@ -198,6 +240,16 @@ fn alone(play: Play, power: bool) -> Play {
     next.standby = standby;
     next.power = power;
     next
+}
+
+fn store(master: Master) -> Stored {
+    report::text(b"stored");
+    masters::store(master)
+}
+
+fn restart(master: Master, stored: Stored) -> Master {
+    report::text(b"starts again from what was stored");
+    masters::restart(master, stored)
 }
 
 fn active_step(play: Play, word: Word, number: u32) -> Play {
@@ -215,7 +267,42 @@ fn active_step(play: Play, word: Word, number: u32) -> Play {
         Word::Take => take(play),
         Word::Send => send(play),
         Word::Answer => answer(play, number),
-        _ => stock(play, number),
+        Word::Store => {
+            next.active_stored = store(play.active);
+            next
+        }
+        _ => store_both(stock(play, number)),
+    }
+}
+
+// Power failures of both masters, what the standby's host stores, and whether the hosts keep the rule.
+fn power_step(play: Play, word: Word, number: u32) -> Play {
+    let mut next = play;
+    match word {
+        Word::Restart => {
+            next.active = restart(play.active, play.active_stored);
+            next.power = true;
+            next
+        }
+        Word::StandbyStore => {
+            next.standby_stored = store(play.standby);
+            next
+        }
+        Word::StandbyRestart => {
+            next.standby = restart(play.standby, play.standby_stored);
+            next
+        }
+        Word::Hasty => {
+            report::text(b"both hosts let things leave that are not stored");
+            next.hasty = true;
+            next
+        }
+        Word::Careful => {
+            report::text(b"both hosts store before anything leaves");
+            next.hasty = false;
+            next
+        }
+        _ => active_step(play, word, number),
     }
 }
 
@@ -231,6 +318,6 @@ pub fn step(play: Play, word: Word, number: u32) -> Play {
             next
         }
         Word::StandbyTake => standby_take(play),
-        _ => active_step(play, word, number),
+        _ => power_step(play, word, number),
     }
 }

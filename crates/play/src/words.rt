@@ -13,6 +13,12 @@ pub enum Word {
     StandbyAdd, // standby_add 16, 24 or 32: the same at the standby
     StandbyTake, // standby_take: the standby takes the lowest strip
     Stock, // stock N: N strips of 16 byte keys are added, up to the first that is refused; their messages make the whole way and are not counted as sent
+    Store, // store: the active's host stores its state and rooms
+    Restart, // restart: the active loses power and starts again from what was stored last, after a cut too
+    StandbyStore, // standby_store, standby_restart: the same at the standby
+    StandbyRestart,
+    Hasty, // hasty: from here on both hosts let things leave that are not stored
+    Careful, // careful: from here on, as at the start, both hosts store before anything leaves
     Unknown,
 }
 
@@ -42,7 +48,7 @@ pub fn skipped(line: &[u8]) -> bool {
     line[0] == b'#'
 }
 
-fn same(a: &[u8], b: &[u8]) -> bool {
+pub fn same(a: &[u8], b: &[u8]) -> bool {
     if a.len() != b.len() {
         return false;
     }
@@ -72,6 +78,29 @@ fn plain(text: &[u8]) -> Word {
     }
     if same(text, b"standby_take") {
         return Word::StandbyTake;
+    }
+    power(text)
+}
+
+// Those of them that have to do with losing power.
+fn power(text: &[u8]) -> Word {
+    if same(text, b"store") {
+        return Word::Store;
+    }
+    if same(text, b"restart") {
+        return Word::Restart;
+    }
+    if same(text, b"standby_store") {
+        return Word::StandbyStore;
+    }
+    if same(text, b"standby_restart") {
+        return Word::StandbyRestart;
+    }
+    if same(text, b"hasty") {
+        return Word::Hasty;
+    }
+    if same(text, b"careful") {
+        return Word::Careful;
     }
     Word::Unknown
 }
