@@ -12,6 +12,12 @@ pub struct Master {
     pub number: u32,
 }
 
+// What the host of a master has stored last.
+pub struct Stored {
+    pub state: [u8; 9],
+    pub rooms: [u8; 43264],
+}
+
 // A new master: role 0 is an active one, 3 a standby.
 pub fn new(role: u8) -> Master {
     Master {
@@ -24,12 +30,7 @@ pub fn new(role: u8) -> Master {
     }
 }
 
-// What the host of a master has stored last.
-pub struct Stored {
-    pub state: [u8; 9],
-    pub rooms: [u8; 43264],
-}
-
+// Its host stores it, whole.
 pub fn store(master: Master) -> Stored {
     let state = master.state;
     let rooms = master.rooms;

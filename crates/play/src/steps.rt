@@ -242,82 +242,88 @@ fn alone(play: Play, power: bool) -> Play {
     next
 }
 
-fn store(master: Master) -> Stored {
-    report::text(b"stored");
-    masters::store(master)
+fn active_add(play: Play, key_size: u32) -> Play {
+    let mut next = play;
+    next.made = more(play.made);
+    next.active = add(play.active, key_size, next.made);
+    next
 }
 
-fn restart(master: Master, stored: Stored) -> Master {
+fn standby_add(play: Play, key_size: u32) -> Play {
+    let mut next = play;
+    next.made = more(play.made);
+    next.standby = add(play.standby, key_size, next.made);
+    next
+}
+
+fn store(play: Play) -> Play {
+    report::text(b"stored");
+    let mut next = play;
+    next.active_stored = masters::store(play.active);
+    next
+}
+
+fn standby_store(play: Play) -> Play {
+    report::text(b"stored");
+    let mut next = play;
+    next.standby_stored = masters::store(play.standby);
+    next
+}
+
+fn restart(play: Play) -> Play {
     report::text(b"starts again from what was stored");
-    masters::restart(master, stored)
+    let mut next = play;
+    next.active = masters::restart(play.active, play.active_stored);
+    next.power = true;
+    next
+}
+
+fn standby_restart(play: Play) -> Play {
+    report::text(b"starts again from what was stored");
+    let mut next = play;
+    next.standby = masters::restart(play.standby, play.standby_stored);
+    next
+}
+
+// Whether the hosts let things leave that are not stored.
+fn hosts(play: Play, hasty: bool) -> Play {
+    let mut next = play;
+    next.hasty = hasty;
+    if hasty {
+        report::text(b"both hosts let things leave that are not stored");
+    } else {
+        report::text(b"both hosts store before anything leaves");
+    }
+    next
 }
 
 fn active_step(play: Play, word: Word, number: u32) -> Play {
-    let mut next = play;
     if !play.power {
         report::text(b"the active has no power");
         return play;
     }
     match word {
-        Word::Add => {
-            next.made = more(play.made);
-            next.active = add(play.active, number, next.made);
-            next
-        }
+        Word::Add => active_add(play, number),
         Word::Take => take(play),
         Word::Send => send(play),
         Word::Answer => answer(play, number),
-        Word::Store => {
-            next.active_stored = store(play.active);
-            next
-        }
+        Word::Store => store(play),
         _ => store_both(stock(play, number)),
     }
 }
 
-// Power failures of both masters, what the standby's host stores, and whether the hosts keep the rule.
-fn power_step(play: Play, word: Word, number: u32) -> Play {
-    let mut next = play;
-    match word {
-        Word::Restart => {
-            next.active = restart(play.active, play.active_stored);
-            next.power = true;
-            next
-        }
-        Word::StandbyStore => {
-            next.standby_stored = store(play.standby);
-            next
-        }
-        Word::StandbyRestart => {
-            next.standby = restart(play.standby, play.standby_stored);
-            next
-        }
-        Word::Hasty => {
-            report::text(b"both hosts let things leave that are not stored");
-            next.hasty = true;
-            next
-        }
-        Word::Careful => {
-            report::text(b"both hosts store before anything leaves");
-            next.hasty = false;
-            next
-        }
-        _ => active_step(play, word, number),
-    }
-}
-
 pub fn step(play: Play, word: Word, number: u32) -> Play {
-    let mut next = play;
     match word {
         Word::Deliver => deliver(play, number),
         Word::Cut => alone(play, false),
         Word::Alone => alone(play, play.power),
-        Word::StandbyAdd => {
-            next.made = more(play.made);
-            next.standby = add(play.standby, number, next.made);
-            next
-        }
+        Word::StandbyAdd => standby_add(play, number),
         Word::StandbyTake => standby_take(play),
-        _ => power_step(play, word, number),
+        Word::Restart => restart(play),
+        Word::StandbyStore => standby_store(play),
+        Word::StandbyRestart => standby_restart(play),
+        Word::Hasty => hosts(play, true),
+        Word::Careful => hosts(play, false),
+        _ => active_step(play, word, number),
     }
 }
