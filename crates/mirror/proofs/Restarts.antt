@@ -1,7 +1,7 @@
 -- That power failures go unnoticed, whatever the rules of the masters are: what is stored and what has left is a run of the system without failures, and so is what is in memory, since what was done since the storing can be done again. Hence the safety theorem. Assumes nothing.
-use Prim.Native.Nat.{ℕ, suc}
-use mathlib.Core.Path.{_≡_, refl, sym, subst, ap, _∙_}
-use mathlib.Core.List.{List, [], _∷_, _++_, append-assoc}
+use Prim.Native.Nat.{ℕ}
+use mathlib.Core.Path.{_≡_, refl, sym, subst, ap}
+use mathlib.Core.List.{List, [], _∷_, _++_}
 use mathlib.Core.Bool.{Bool, true, false}
 use Rattle.refusal.specs.Answer.{choose}
 use Rattle.mirror.specs.Mirror.{Strips, Said, done, handed, acknowledged, refused, Message, Rules, paper, World, Event, adds-strip, takes-strip, sends, arrives, answered, cuts, adds-alone, takes-alone, at, noteHanded, noteAcknowledged, outstanding, withActive, withAdded, withSent, withStandby, withAlone, arrived, came, addedAlone, step, start, after}
@@ -10,21 +10,9 @@ use Rattle.mirror.specs.Restarts.{ActiveSide, StandbySide, activeSide, s
 use Rattle.mirror.specs.Restarts as claims
 use Rattle.mirror.proofs.Pools.{choose-both}
 use Rattle.mirror.proofs.Claims.{safety}
+use Rattle.mirror.proofs.Redone.{ends, ends-after, still-there, Redone, redone, active-stored, standby-stored, active-restarted, standby-restarted, memory-reached}
 
--- ---- a list and a later one that ends in it
-pub ends : {A : Type 0} (l : List A) → Ends l l
-ends l = ([], refl)
-
-pub ends-after : {A : Type 0} {k l m : List A} → Ends k l → Ends l m → Ends k m
-ends-after {k} f g = (g .0 ++ f .0, g .1 ∙ ap (λ t. g .0 ++ t) (f .1) ∙ sym (append-assoc (g .0) (f .0) k))
-
--- what stood in it stands in the later one
-still-there : {A : Type 0} (k : ℕ) {l m : List A} → Ends l m → (j : ℕ) × (at j m ≡ at k l)
-still-there {A} k {l} {m} f = let h = go (f .0) in (h .0, ap (at (h .0)) (f .1) ∙ h .1) where
-  go : (x : List A) → (j : ℕ) × (at j (x ++ l) ≡ at k l)
-  go [] = (k, refl)
-  go (y ∷ x) = let h = go x in (suc (h .0), h .1)
-
+-- ---- what is handed out and acknowledged comes before what was
 pub ends-handed : (said : Said) (l : Strips) → Ends l (noteHanded said l)
 ends-handed done l = ends l
 ends-handed (handed x) l = (x ∷ [], refl)
@@ -141,61 +129,50 @@ module _ (rules : Rules) where
   grows w (adds-alone s) = choose-both (λ (x : World). Still (left w) (left x)) (w .standby .alone) _ w (λ t. record { messages = ends _; acknowledgements = ends _; given = ends _; offered = ends-handed (rules .onAddAlone s (w .standby .pool) .0) (w .offered) }) (λ t. still (left w))
   grows w takes-alone = choose-both (λ (x : World). Still (left w) (left x)) (w .standby .alone) _ w (λ t. record { messages = ends _; acknowledgements = ends _; given = ends _; offered = ends-handed (rules .onTakeAlone (w .standby .pool) .0) (w .offered) }) (λ t. still (left w))
 
-  -- ---- what is kept: what is stored is reached, and what is in memory can be done again from it and has all that has left
+  -- ---- what is kept: what is in memory can be done again, and has all that has left
+  abbrev Redoes : Masters → Type 0
+  Redoes c = Redone ActiveSide StandbySide Message ℕ (λ (b : StandbySide). b .back) (λ a b link. Reached rules (world a b link)) (c .active) (c .standby) (c .link)
+
   record Kept (c : Masters) : Type 0 where
-    stored : Reached rules (again c)
-    active : (b : StandbySide) (link : List Message) → Ends (c .standby .stored .back) (b .back) → Reached rules (world (c .active .stored) b link) → Reached rules (world (c .active .memory) b link)
-    standby : (a : ActiveSide) (link : List Message) → Ends (c .link) link → Reached rules (world a (c .standby .stored) link) → Reached rules (world a (c .standby .memory) link)
+    memory : Redoes c
     ahead : Still (left (again c)) (left (now c))
 
-  keeps : (c : Masters) (h : Happening) → Kept c → Kept (happen careful rules c h)
+  redoes : (c : Masters) (h : Happening) → Redoes c → Redoes (happen careful rules c h)
+  unfolding again happen doing careful activeAgain standbyAgain activeSide standbySide world left
+  redoes c (does e) v =
+      redone _ _ _ _ _ _ (c .active) (c .standby) (c .link) v _ _ _
+      (λ b link f r. active-does (c .active .memory) (c .standby .stored) b (c .link) link e f r)
+      (λ a link f r. standby-does (c .active .stored) a (c .standby .memory) (c .link) link e f r)
+      (link-does (c .active .stored) (c .standby .stored) (c .link) e)
+      (grows (again c) e .messages)
+      (grows (world (c .active .stored) (c .standby .memory) (c .link)) e .acknowledgements)
+  redoes c stores-active v = active-stored _ _ _ _ _ _ (c .active) (c .standby) (c .link) v
+  redoes c stores-standby v = standby-stored _ _ _ _ _ _ (c .active) (c .standby) (c .link) v
+  redoes c restarts-active v = active-restarted _ _ _ _ _ _ (c .active) (c .standby) (c .link) v
+  redoes c restarts-standby v = standby-restarted _ _ _ _ _ _ (c .active) (c .standby) (c .link) v
+
+  goes-ahead : (c : Masters) (h : Happening) → Still (left (again c)) (left (now c)) → Still (left (again (happen careful rules c h))) (left (now (happen careful rules c h)))
   unfolding now again left happen doing careful activeAgain standbyAgain activeSide standbySide world
-  keeps c (does e) v =
-      let sent = grows (again c) e .messages in
+  goes-ahead c (does e) v =
       let at-active = grows (world (c .active .memory) (c .standby .stored) (c .link)) e in
       let at-standby = grows (world (c .active .stored) (c .standby .memory) (c .link)) e in
-      record {
-        stored = link-does (c .active .stored) (c .standby .stored) (c .link) e (v .stored);
-        active = λ b link f r. active-does (c .active .memory) (c .standby .stored) b (c .link) link e f (v .active b link f r);
-        standby = λ a link f r. let g = ends-after sent f in standby-does (c .active .stored) a (c .standby .memory) (c .link) link e g (v .standby a link g r);
-        ahead = record { messages = ends _; acknowledgements = ends-after (v .ahead .acknowledgements) (at-standby .acknowledgements); given = ends-after (v .ahead .given) (at-active .given); offered = ends-after (v .ahead .offered) (at-standby .offered) };
-      }
-  keeps c stores-active v = record {
-    stored = v .active (c .standby .stored) (c .link) (ends _) (v .stored);
-    active = λ b link f r. r;
-    standby = v .standby;
-    ahead = record { messages = ends _; acknowledgements = v .ahead .acknowledgements; given = ends _; offered = v .ahead .offered };
-  }
-  keeps c stores-standby v = record {
-    stored = v .standby (c .active .stored) (c .link) (ends _) (v .stored);
-    active = λ b link f r. v .active b link (ends-after (v .ahead .acknowledgements) f) r;
-    standby = λ a link f r. r;
-    ahead = record { messages = ends _; acknowledgements = ends _; given = v .ahead .given; offered = ends _ };
-  }
-  keeps c restarts-active v = record {
-    stored = v .stored;
-    active = λ b link f r. r;
-    standby = v .standby;
-    ahead = record { messages = ends _; acknowledgements = v .ahead .acknowledgements; given = ends _; offered = v .ahead .offered };
-  }
-  keeps c restarts-standby v = record {
-    stored = v .stored;
-    active = v .active;
-    standby = λ a link f r. r;
-    ahead = record { messages = ends _; acknowledgements = ends _; given = v .ahead .given; offered = ends _ };
-  }
+      record { messages = ends _; acknowledgements = ends-after (v .acknowledgements) (at-standby .acknowledgements); given = ends-after (v .given) (at-active .given); offered = ends-after (v .offered) (at-standby .offered) }
+  goes-ahead c stores-active v = record { messages = ends _; acknowledgements = v .acknowledgements; given = ends _; offered = v .offered }
+  goes-ahead c stores-standby v = record { messages = ends _; acknowledgements = ends _; given = v .given; offered = ends _ }
+  goes-ahead c restarts-active v = record { messages = ends _; acknowledgements = v .acknowledgements; given = ends _; offered = v .offered }
+  goes-ahead c restarts-standby v = record { messages = ends _; acknowledgements = ends _; given = v .given; offered = ends _ }
 
   kept : (hs : List Happening) → Kept (lived careful rules hs)
   unfolding now again lived atRest world activeSide standbySide start after
-  kept [] = record { stored = ([], refl); active = λ b link f r. r; standby = λ a link f r. r; ahead = still _ }
-  kept (h ∷ hs) = keeps (lived careful rules hs) h (kept hs)
+  kept [] = record { memory = record { stored = ([], refl); active = λ b link f r. r; standby = λ a link f r. r; heard = ends _ }; ahead = still _ }
+  kept (h ∷ hs) = let v = kept hs in record { memory = redoes (lived careful rules hs) h (v .memory); ahead = goes-ahead (lived careful rules hs) h (v .ahead) }
 
 pub unnoticed : claims.Unnoticed
-unfolding now again left world
+unfolding now again
 unnoticed rules hs =
     let c = lived careful rules hs in
-    let v = kept rules hs in
-    (v .active (c .standby .memory) (c .link) (v .ahead .acknowledgements) (v .standby (c .active .stored) (c .link) (ends (c .link)) (v .stored)), v .stored)
+    let v = kept rules hs .memory in
+    (memory-reached _ _ _ _ _ _ (c .active) (c .standby) (c .link) v, v .stored)
 
 pub safely : claims.Safety
 safely own hs = let u = unnoticed (paper own) hs in (safe (u .0), safe (u .1)) where

@@ -1,4 +1,4 @@
--- The claims on cabinets with restarts: each event of theirs is three events of cabinets without, of which each side and the link keep their own. Assumes nothing.
+-- The claims on cabinets with restarts, from what one event does to each side and to the link: what was done since the last store can be done again, and each event is the system's. Assumes nothing.
 use Prim.Native.Nat.{ℕ, _+_}
 use native.Mathlib.Omega.{arith}
 use mathlib.Core.Path.{_≡_, refl, sym, subst, ap, _∙_}
@@ -6,20 +6,21 @@ use mathlib.Core.List.{List, [], _∷_, _++_}
 use lib.ListN.{length}
 use Rattle.strip.specs.Strip.{ownChecks}
 use Rattle.mirror.specs.Mirror as mirror
-use Rattle.mirror.specs.Mirror.{World, Event, adds-strip, takes-strip, sends, arrives, answered, cuts, adds-alone, takes-alone, at, after}
+use Rattle.mirror.specs.Mirror.{World, Event, adds-strip, takes-strip, sends, arrives, answered, cuts, adds-alone, takes-alone, at}
 use Rattle.mirror.specs.Claims.{Safe}
 use Rattle.mirror.specs.Restarts as system
-use Rattle.mirror.specs.Restarts.{careful, Happening, does, stores-active, stores-standby, restarts-active, restarts-standby, Reached, atOnce, Still}
+use Rattle.mirror.specs.Restarts.{careful, Happening, does, stores-active, stores-standby, restarts-active, restarts-standby, atOnce, Ends, Still}
 use Rattle.mirror.proofs.Restarts as proved
-use Rattle.mirror.proofs.Restarts.{ends, ends-after, ends-handed, still, still-after}
+use Rattle.mirror.proofs.Redone.{ends, ends-after, still-there, Redone, redone, active-stored, standby-stored, active-restarted, standby-restarted, memory-reached}
+use Rattle.mirror.proofs.Restarts.{ends-handed, still, still-after}
 use Rattle.state.specs.State.{stateIn}
-use Rattle.pair.specs.Pair.{Cabinets, takeOut, acknowledge, apply, applyAt, goAlone, outstanding, sentBack, withActive, withAdded, withSent, withStandby, withAddedAlone, withTakenAlone, arrived, came, ranStep, begin, ran, activeIn, standbyIn, messagesIn, numbersIn, standsFor}
+use Rattle.pair.specs.Pair.{Cabinets, takeOut, acknowledge, applyAt, outstanding, sentBack, withActive, withAdded, withSent, withStandby, withAddedAlone, withTakenAlone, arrived, came, ranStep, ran, activeIn, standbyIn, messagesIn, numbersIn, standsFor}
 use Rattle.pair.specs.Claims.{rules}
 use Rattle.pair.specs.Restarts.{ActiveSide, StandbySide, activeSide, standbySide, cabinets, Pair, happen, atRest, lived, now, again, Holds, left}
 use Rattle.pair.specs.Restarts as claims
 use Rattle.pair.proofs.Master.{a-state}
 use Rattle.pair.proofs.Run.{Runs, lifts, begins}
-use Rattle.pair.proofs.Claims.{lifted, answers}
+use Rattle.pair.proofs.Claims.{answers}
 
 -- ---- what each side stands for
 unfoldable active-stands : ActiveSide → system.ActiveSide
@@ -88,33 +89,73 @@ all-lives (h ∷ hs) =
     let f = lives (lived hs) (q .1) h in
     (f .0 ∙ ap (λ (c : system.Masters). system.happen careful rules c h) (q .0), f .1)
 
--- ---- the claims
-holds : {c : Cabinets} {w : World} → Runs c → standsFor c ≡ w → Reached rules w → Safe rules w → Holds c w
-holds {c} v e r s = record {
-  lifted = e;
-  unnoticed = (r .0, e ∙ r .1 ∙ sym (lifted (r .0)));
-  safely = subst (Safe rules) (sym e) s;
-  answered = answers c v;
-  free-rooms = (λ n h i. v .near .sound .filled .free n h (omega (arith, i)), λ n h i. v .far .kept .sound .filled .free n h (omega (arith, i)));
-  unrefused = (a-state (v .near) (omega arith), a-state (v .far .kept) (omega arith));
-}
+-- ---- each side can do again what it did, with any other side from which as much has left
+abbrev Reached : Cabinets → Type 0
+Reached c = (es : List Event) × (c ≡ ran es)
 
-pub restarts : claims.Restarts
-unfolding now again cabinets stands active-stands standby-stands system.now system.again system.world standsFor
-restarts hs =
-    let q = all-lives hs in
-    let u = proved.unnoticed rules hs in
-    let s = proved.safely ownChecks hs in
-    (holds (q .1 .memory) (ap system.now (q .0)) (u .0) (s .0), holds (q .1 .stored) (ap system.again (q .0)) (u .1) (s .1))
+reached : (c : Cabinets) (e : Event) → Reached c → Reached (ranStep c e)
+unfolding ran
+reached c e r = (e ∷ r .0, ap (λ c. ranStep c e) (r .1))
 
-pub at-once : claims.AtOnce
-unfolding now lived happen atRest ran activeSide standbySide cabinets
-at-once es = ap now (go es) where
-  go : (es : List Event) → lived (atOnce es) ≡ atRest (ran es)
-  go [] = refl
-  go (e ∷ es) = ap (λ p. happen (happen (happen p (does e)) stores-active) stores-standby) (go es)
+module _ (a : ActiveSide) (b b′ : StandbySide) (link link′ : List (List ℕ)) where
+  active-does : (e : Event) → Ends (b .back) (b′ .back) → Reached (cabinets a b′ link′) → Reached (cabinets (activeSide (ranStep (cabinets a b link) e)) b′ link′)
+  unfolding ranStep cabinets activeSide withActive withAdded withSent withStandby withAddedAlone withTakenAlone arrived came
+  active-does (adds-strip s) f r = reached (cabinets a b′ link′) (adds-strip s) r
+  active-does takes-strip f r = reached (cabinets a b′ link′) takes-strip r
+  active-does sends f r = r
+  active-does (arrives k) f r = go (at k link) where
+    go : (l : List (List ℕ)) → Reached (cabinets (activeSide (arrived (cabinets a b link) l)) b′ link′)
+    go [] = r
+    go (bytes ∷ l) = r
+  active-does (answered k) f r =
+      let h = still-there k f in
+      go (at k (b .back)) (subst (λ l. Reached (came (cabinets a b′ link′) l)) (h .1) (reached (cabinets a b′ link′) (answered (h .0)) r)) where
+        go : (l : List (List ℕ)) → Reached (came (cabinets a b′ link′) l) → Reached (cabinets (activeSide (came (cabinets a b link) l)) b′ link′)
+        go [] q = q
+        go (bytes ∷ l) q = q
+  active-does cuts f r = r
+  active-does (adds-alone s) f r = r
+  active-does takes-alone f r = r
 
--- ---- what has left stays outside. No event takes anything back
+module _ (a a′ : ActiveSide) (b : StandbySide) (link link′ : List (List ℕ)) where
+  standby-does : (e : Event) → Ends link link′ → Reached (cabinets a′ b link′) → Reached (cabinets a′ (standbySide (ranStep (cabinets a b link) e)) link′)
+  unfolding ranStep cabinets standbySide withActive withAdded withSent withStandby withAddedAlone withTakenAlone arrived came
+  standby-does (adds-strip s) f r = r
+  standby-does takes-strip f r = r
+  standby-does sends f r = r
+  standby-does (arrives k) f r =
+      let h = still-there k f in
+      go (at k link) (subst (λ l. Reached (arrived (cabinets a′ b link′) l)) (h .1) (reached (cabinets a′ b link′) (arrives (h .0)) r)) where
+        go : (l : List (List ℕ)) → Reached (arrived (cabinets a′ b link′) l) → Reached (cabinets a′ (standbySide (arrived (cabinets a b link) l)) link′)
+        go [] q = q
+        go (bytes ∷ l) q = q
+  standby-does (answered k) f r = go (at k (b .back)) where
+    go : (l : List (List ℕ)) → Reached (cabinets a′ (standbySide (came (cabinets a b link) l)) link′)
+    go [] = r
+    go (bytes ∷ l) = r
+  standby-does cuts f r = reached (cabinets a′ b link′) cuts r
+  standby-does (adds-alone s) f r = reached (cabinets a′ b link′) (adds-alone s) r
+  standby-does takes-alone f r = reached (cabinets a′ b link′) takes-alone r
+
+module _ (a : ActiveSide) (b : StandbySide) (link : List (List ℕ)) where
+  link-does : (e : Event) → Reached (cabinets a b link) → Reached (cabinets a b (ranStep (cabinets a b link) e .link))
+  unfolding ranStep cabinets withActive withAdded withSent withStandby withAddedAlone withTakenAlone arrived came
+  link-does (adds-strip s) r = r
+  link-does takes-strip r = r
+  link-does sends r = reached (cabinets a b link) sends r
+  link-does (arrives k) r = go (at k link) where
+    go : (l : List (List ℕ)) → Reached (cabinets a b (arrived (cabinets a b link) l .link))
+    go [] = r
+    go (bytes ∷ l) = r
+  link-does (answered k) r = go (at k (b .back)) where
+    go : (l : List (List ℕ)) → Reached (cabinets a b (came (cabinets a b link) l .link))
+    go [] = r
+    go (bytes ∷ l) = r
+  link-does cuts r = r
+  link-does (adds-alone s) r = r
+  link-does takes-alone r = r
+
+-- ---- no event takes anything back
 grows : (c : Cabinets) (e : Event) → Still (left c) (left (ranStep c e))
 unfolding left ranStep withActive withAdded withSent withStandby withAddedAlone withTakenAlone arrived came
 grows c (adds-strip s) = still (left c)
@@ -132,6 +173,57 @@ grows c cuts = still (left c)
 grows c (adds-alone s) = still (left c)
 grows c takes-alone = record { messages = ends _; acknowledgements = ends _; given = ends _; offered = ends-handed (takeOut (c .standby) .0) (c .offered) }
 
+-- ---- and so what is in memory can be done again
+abbrev Redoes : Pair → Type 0
+Redoes p = Redone ActiveSide StandbySide (List ℕ) (List ℕ) (λ (b : StandbySide). b .back) (λ a b link. Reached (cabinets a b link)) (p .active) (p .standby) (p .link)
+
+redoes : (p : Pair) (h : Happening) → Redoes p → Redoes (happen p h)
+unfolding again happen activeSide standbySide cabinets left
+redoes p (does e) v =
+    redone _ _ _ _ _ _ (p .active) (p .standby) (p .link) v _ _ _
+    (λ b link f r. active-does (p .active .memory) (p .standby .stored) b (p .link) link e f r)
+    (λ a link f r. standby-does (p .active .stored) a (p .standby .memory) (p .link) link e f r)
+    (link-does (p .active .stored) (p .standby .stored) (p .link) e)
+    (grows (again p) e .messages)
+    (grows (cabinets (p .active .stored) (p .standby .memory) (p .link)) e .acknowledgements)
+redoes p stores-active v = active-stored _ _ _ _ _ _ (p .active) (p .standby) (p .link) v
+redoes p stores-standby v = standby-stored _ _ _ _ _ _ (p .active) (p .standby) (p .link) v
+redoes p restarts-active v = active-restarted _ _ _ _ _ _ (p .active) (p .standby) (p .link) v
+redoes p restarts-standby v = standby-restarted _ _ _ _ _ _ (p .active) (p .standby) (p .link) v
+
+all-redoes : (hs : List Happening) → Redoes (lived hs)
+unfolding lived atRest activeSide standbySide cabinets ran
+all-redoes [] = record { stored = ([], refl); active = λ b link f r. r; standby = λ a link f r. r; heard = ends _ }
+all-redoes (h ∷ hs) = redoes (lived hs) h (all-redoes hs)
+
+-- ---- the claims
+holds : {c : Cabinets} {w : World} → Runs c → Reached c → standsFor c ≡ w → Safe rules w → Holds c w
+holds {c} v r e s = record {
+  unnoticed = r;
+  lifted = e;
+  safely = subst (Safe rules) (sym e) s;
+  answered = answers c v;
+  free-rooms = (λ n h i. v .near .sound .filled .free n h (omega (arith, i)), λ n h i. v .far .kept .sound .filled .free n h (omega (arith, i)));
+  unrefused = (a-state (v .near) (omega arith), a-state (v .far .kept) (omega arith));
+}
+
+pub restarts : claims.Restarts
+unfolding now again cabinets stands active-stands standby-stands system.now system.again system.world standsFor
+restarts hs =
+    let q = all-lives hs in
+    let p = lived hs in
+    let r = all-redoes hs in
+    let s = proved.safely ownChecks hs in
+    (holds (q .1 .memory) (memory-reached _ _ _ _ _ _ (p .active) (p .standby) (p .link) r) (ap system.now (q .0)) (s .0), holds (q .1 .stored) (r .stored) (ap system.again (q .0)) (s .1))
+
+pub at-once : claims.AtOnce
+unfolding now lived happen atRest ran activeSide standbySide cabinets
+at-once es = ap now (go es) where
+  go : (es : List Event) → lived (atOnce es) ≡ atRest (ran es)
+  go [] = refl
+  go (e ∷ es) = ap (λ p. happen (happen (happen p (does e)) stores-active) stores-standby) (go es)
+
+-- ---- what has left stays outside
 -- what is in memory has all that has left
 abbrev Ahead : Pair → Type 0
 Ahead p = Still (left (again p)) (left (now p))

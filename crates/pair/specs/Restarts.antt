@@ -65,9 +65,10 @@ again p = cabinets (p .active .stored) (p .standby .stored) (p .link)
 
 -- ---- the claims: all that is claimed of cabinets without failures, at every moment, of those in memory and of those stored
 pub record Holds (c : Cabinets) (w : World) : Type 0 where
-  -- they stand for the system's world, which a run without failures comes to as well
+  -- byte for byte they are what a run without failures comes to
+  pub unnoticed : (es : List Event) × (c ≡ ran es)
+  -- and they stand for the world of the system with restarts
   pub lifted : standsFor c ≡ w
-  pub unnoticed : (es : List Event) × (standsFor c ≡ standsFor (ran es))
   pub safely : Safe rules (standsFor c)
   -- each call says what the system's rule says
   pub answered : Answers c (standsFor c)
