@@ -42,7 +42,7 @@ module _ (c : Cabinets) (v : Runs c) where
   unfolding standsFor standbyIn
   waiting-role e = omega (arith, eqb-false role roles.alone e, v .far .kept .sound .least, v .far .kept .sound .greatest)
 
-  pub answers : Answers c w
+  answers : Answers c w
   unfolding paper standsFor standbyIn apply
   answers = record {
     on-add = λ s. says (add-follows (c .active) (v .near) s .0);

@@ -1,26 +1,23 @@
 -- The claims on cabinets with restarts, from what one event does to each side and to the link: what was done since the last store can be done again, and each event is the system's. Assumes nothing.
 use Prim.Native.Nat.{ℕ, _+_}
-use native.Mathlib.Omega.{arith}
 use mathlib.Core.Path.{_≡_, refl, sym, subst, ap, _∙_}
 use mathlib.Core.List.{List, [], _∷_, _++_}
+use mathlib.Core.Bool.{false}
 use lib.ListN.{length}
-use Rattle.strip.specs.Strip.{ownChecks}
 use Rattle.mirror.specs.Mirror as mirror
 use Rattle.mirror.specs.Mirror.{World, Event, adds-strip, takes-strip, sends, arrives, answered, cuts, adds-alone, takes-alone, at}
 use Rattle.mirror.specs.Claims.{Safe}
 use Rattle.mirror.specs.Restarts as system
 use Rattle.mirror.specs.Restarts.{careful, Happening, does, stores-active, stores-standby, restarts-active, restarts-standby, atOnce, Ends, Still}
-use Rattle.mirror.proofs.Restarts as proved
 use Rattle.mirror.proofs.Redone.{ends, ends-after, still-there, Redone, redone, active-stored, standby-stored, active-restarted, standby-restarted, memory-reached}
 use Rattle.mirror.proofs.Restarts.{ends-handed, still, still-after}
-use Rattle.state.specs.State.{stateIn}
+use Rattle.state.specs.State.{stateIn, noState}
 use Rattle.pair.specs.Pair.{Cabinets, takeOut, acknowledge, applyAt, outstanding, sentBack, withActive, withAdded, withSent, withStandby, withAddedAlone, withTakenAlone, arrived, came, ranStep, ran, activeIn, standbyIn, messagesIn, numbersIn, standsFor}
-use Rattle.pair.specs.Claims.{rules}
+use Rattle.pair.specs.Claims.{rules, Answers, Free}
 use Rattle.pair.specs.Restarts.{ActiveSide, StandbySide, activeSide, standbySide, cabinets, Pair, happen, atRest, lived, now, again, Holds, left}
 use Rattle.pair.specs.Restarts as claims
-use Rattle.pair.proofs.Master.{a-state}
 use Rattle.pair.proofs.Run.{Runs, lifts, begins}
-use Rattle.pair.proofs.Claims.{answers}
+use Rattle.pair.proofs.Claims as without
 
 -- ---- what each side stands for
 unfoldable active-stands : ActiveSide → system.ActiveSide
@@ -197,24 +194,26 @@ all-redoes [] = record { stored = ([], refl); active = λ b link f r. r; standby
 all-redoes (h ∷ hs) = redoes (lived hs) h (all-redoes hs)
 
 -- ---- the claims
-holds : {c : Cabinets} {w : World} → Runs c → Reached c → standsFor c ≡ w → Safe rules w → Holds c w
-holds {c} v r e s = record {
+holds : {c : Cabinets} {w : World} → Reached c → standsFor c ≡ w → Holds c w
+holds {c} r e = record {
   unnoticed = r;
   lifted = e;
-  safely = subst (Safe rules) (sym e) s;
-  answered = answers c v;
-  free-rooms = (λ n h i. v .near .sound .filled .free n h (omega (arith, i)), λ n h i. v .far .kept .sound .filled .free n h (omega (arith, i)));
-  unrefused = (a-state (v .near) (omega arith), a-state (v .far .kept) (omega arith));
-}
+  safely = too (λ c. Safe rules (standsFor c)) (without.safely (r .0));
+  answered = too (λ c. Answers c (standsFor c)) (subst (Answers (ran (r .0))) (sym (without.lifted (r .0))) (without.answered (r .0)));
+  free-rooms = too (λ c. Free (c .active) × Free (c .standby)) (without.free-rooms (r .0));
+  unrefused = too (λ c. (noState (c .active .state) ≡ false) × (noState (c .standby .state) ≡ false)) (without.unrefused (r .0));
+} where
+  -- what holds of cabinets without failures holds of these
+  too : (P : Cabinets → Type 0) → P (ran (r .0)) → P c
+  too P h = subst P (sym (r .1)) h
 
 pub restarts : claims.Restarts
 unfolding now again cabinets stands active-stands standby-stands system.now system.again system.world standsFor
 restarts hs =
-    let q = all-lives hs in
+    let e = all-lives hs .0 in
     let p = lived hs in
     let r = all-redoes hs in
-    let s = proved.safely ownChecks hs in
-    (holds (q .1 .memory) (memory-reached _ _ _ _ _ _ (p .active) (p .standby) (p .link) r) (ap system.now (q .0)) (s .0), holds (q .1 .stored) (r .stored) (ap system.again (q .0)) (s .1))
+    (holds (memory-reached _ _ _ _ _ _ (p .active) (p .standby) (p .link) r) (ap system.now e), holds (r .stored) (ap system.again e))
 
 pub at-once : claims.AtOnce
 unfolding now lived happen atRest ran activeSide standbySide cabinets
