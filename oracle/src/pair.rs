@@ -108,7 +108,7 @@ impl Pair {
         Told { call: RESTART, line: 0, direction: 0, number: DONE, before, after }
     }
 
-    /// What §8 promises holds at any moment, and since power may fail at any moment, of each master in
+    /// What chapter 7 of the rules promises holds at any moment, and since power may fail at any moment, of each master in
     /// memory and as it would start again.
     pub fn check(&self) {
         for (active, first) in [(&self.active.memory, true), (&self.active.stored, false)] {

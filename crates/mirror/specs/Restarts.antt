@@ -1,5 +1,5 @@
 -- Both masters with power failures and restarts, the rule for their hosts, and what is claimed of every run in which it is kept. Proved in proofs/Restarts.antt.
--- The rule: nothing leaves a cabinet, be it a message, an acknowledgement or a strip, before the state and the rooms that it comes from are stored.
+-- The rule, 7.11: nothing leaves a cabinet, be it a message, an acknowledgement or a strip, before the state and the rooms that it comes from are stored.
 -- A call changes what a master has in memory. Its host stores that now and then, all of it or nothing; a master whose power fails starts again from what was stored last, at any moment and any number of times.
 use Prim.Native.Nat.{ℕ}
 use mathlib.Core.Path.{_≡_}
