@@ -3,12 +3,13 @@ use Prim.Native.Nat.{ℕ, _-_, _*_, _/_, _≤_, _<_}
 use native.Mathlib.Omega.{arith}
 use mathlib.Core.Path.{_≡_, refl, sym}
 use mathlib.Core.List.{List, [], _∷_}
+use mathlib.Core.Bool.{_||_}
 use Rattle.refusal.specs.declared.Check.{Check}
 use Rattle.refusal.specs.declared.Check.the-variants.{Passed}
 use Rattle.refusal.specs.Refusal.{failed}
 use Rattle.refusal.specs.declared.Outcome.{Outcome}
 use Rattle.refusal.specs.declared.Outcome.the-variants.{Done}
-use Rattle.refusal.specs.Answer.{done, refused, first, either, isNot, noneOf, outcome}
+use Rattle.refusal.specs.Answer.{done, refused, first, isNot, noneOf, outcome}
 use Rattle.refusal.proofs.First.{found, passes-first, call-passes, passed-is, neither}
 use Rattle.strip.specs.Strip.{blockChecks}
 use Rattle.strip.proofs.Good.{Fit, good}
@@ -53,7 +54,7 @@ pub record Admitted (d m w : ℕ) (s : List ℕ) : Type 0 where
 
 pub admitted : (d m w : ℕ) (s : List ℕ) (v : Outcome) → outcome v ≡ first (checks d m w s) refused (done tt) → v ≡ Done → Admitted d m w s
 admitted d m w s v e f =
-    let p6 = passes-first 6 (either (isNot 16 d) (isNot 16 m)) _ (call-passes (checks d m w s) v e f) in
+    let p6 = passes-first 6 (isNot 16 d || isNot 16 m) _ (call-passes (checks d m w s) v e f) in
     let p5 = passes-first 5 (noneOf (176 ∷ 208 ∷ 240 ∷ []) w) (blockChecks s (keySizeIn w)) (p6 .1) in
     let both = neither (isNot 16 d) (isNot 16 m) (p6 .0) in
     record {

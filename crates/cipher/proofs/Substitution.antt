@@ -86,9 +86,9 @@ module _ (dir : Direction) (s : List ℕ) (n : ℕ) (d m : List ℕ) where
     went-more ρ v x y h r e f =
         let here-d : getD D i 0 ≡ getD d i 0 = front-here newData d D i (went .isD) (data-long ∙ sym hd) (omega arith) in
         let here-m : getD M i 0 ≡ getD m i 0 = front-here (newMasks dir s n) m M i (went .isM) (mask-long ∙ sym hm) (omega arith) in
-        let both = served dir (getD D i 0) (getD M i 0) ρ v e x y f in
-        let is-x : x ≡ newByte dir (getD D i 0) (getD M i 0) ρ = ap (λ (a : ℕ × ℕ). a .0) both in
-        let is-y : y ≡ newMask dir ρ = ap (λ (a : ℕ × ℕ). a .1) both in
+        let answer = served dir (getD D i 0) (getD M i 0) ρ v e x y f in
+        let is-x : x ≡ newByte dir (getD D i 0) (getD M i 0) ρ = ap (λ (a : ℕ × ℕ). a .0) answer in
+        let is-y : y ≡ newMask dir ρ = ap (λ (a : ℕ × ℕ). a .1) answer in
         let new-x : x ≡ getD newData i 0 = is-x ∙ rw (here-d, here-m, r) (sym (data-at i h)) in
         let new-y : y ≡ getD (newMasks dir s n) i 0 = is-y ∙ rw r (sym (mask-at i h)) in
         record {

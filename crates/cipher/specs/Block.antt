@@ -1,10 +1,10 @@
 -- What a block call answers: its refusals in their order, the outgoing mask, and FIPS 197 under it.
 use Prim.Native.Nat.{ℕ, _+_, _-_, _*_, _/_}
 use mathlib.Core.List.{List, [], _∷_}
-use mathlib.Core.Bool.{Bool}
+use mathlib.Core.Bool.{Bool, _||_}
 use lib.ListN.{length}
 use Rattle.fips197.specs.Cipher.{_⊞_, state, shiftRows, cipher, invCipher}
-use Rattle.refusal.specs.Answer.{Answer, done, refused, first, either, isNot, noneOf}
+use Rattle.refusal.specs.Answer.{Answer, done, refused, first, isNot, noneOf}
 use Rattle.tower.specs.declared.Record.{Record}
 use Rattle.strip.specs.Strip.{blockChecks, recordPart, wiped}
 use Rattle.sbox.specs.declared.Direction.{Direction}
@@ -21,7 +21,7 @@ keySizeIn bytes = 4 * (roundsIn bytes - 6)
 -- rule 5.4: block or mask not 16 bytes, round keys of none of the three lengths, then the strip's own
 abbrev pub checks : ℕ → ℕ → ℕ → List ℕ → List (ℕ × Bool)
 checks d m w s =
-    (6, either (isNot 16 d) (isNot 16 m)) ∷ (5, noneOf (176 ∷ 208 ∷ 240 ∷ []) w) ∷ blockChecks s (keySizeIn w)
+    (6, (isNot 16 d || isNot 16 m)) ∷ (5, noneOf (176 ∷ 208 ∷ 240 ∷ []) w) ∷ blockChecks s (keySizeIn w)
 
 -- a record of a strip, where the reader hands it out
 unfoldable pub recordAt : List ℕ → ℕ → Record

@@ -2,10 +2,10 @@
 use mathlib.Core.Path.{_≡_}
 use Prim.Native.Nat.{ℕ, zero, suc, _+_, _-_, _*_, _<_, _≤_}
 use mathlib.Core.List.{List}
-use mathlib.Core.Bool.{Bool, true, false}
+use mathlib.Core.Bool.{Bool, true, false, cond}
 use lib.ListN.{length, getD}
 use lib.Dec.{eqb}
-use Rattle.fips197.specs.Cipher.{cell, state, shiftRows, mixColumns, addRoundKey, invShiftRows, invMixColumns, choose}
+use Rattle.fips197.specs.Cipher.{cell, state, shiftRows, mixColumns, addRoundKey, invShiftRows, invMixColumns}
 use Rattle.strip.specs.Strip.{recordPart}
 use Rattle.sbox.specs.declared.Direction.{Direction}
 use Rattle.sbox.specs.declared.Direction.the-variants.{Encrypt, Decrypt}
@@ -35,7 +35,7 @@ keyed w round b = (addRoundKey (b .0) w round, b .1)
 
 -- the columns are mixed in every round but the last
 unfoldable pub mixed : (List ℕ → List ℕ) → ℕ → ℕ → List ℕ → List ℕ
-mixed f n nr l = choose (eqb (suc n) nr) l (f l)
+mixed f n nr l = cond (eqb (suc n) nr) l (f l)
 
 -- the work of round n, from 0, of nr; and the parts after n rounds of nr, once a first round key is added
 module _ (w s : List ℕ) (nr : ℕ) where

@@ -1,10 +1,11 @@
 // The masked block calls: every check first, then the rounds of FIPS 197 on data and mask, then the strip is wiped.
 ghost use mathlib.Core.Path.{_≡_};
+ghost use mathlib.Core.Bool.{_||_};
 ghost use Prim.Native.Nat.{suc, _<_, _≤_, _+_, _*_};
 ghost use lib.ListN.{length};
 ghost use lib.Dec.{eqb};
 ghost use Rattle.refusal.specs.Refusal.{failed};
-ghost use Rattle.refusal.specs.Answer.{first, done, refused, either, isNot, outcome};
+ghost use Rattle.refusal.specs.Answer.{first, done, refused, isNot, outcome};
 ghost use Rattle.strip.specs.Strip.{recordPart};
 ghost use Rattle.fips197.specs.Cipher.{mixColumns, invMixColumns};
 ghost use Rattle.sbox.specs.declared.Direction.the-variants as way;
@@ -19,7 +20,7 @@ use tower::Record;
 
 // 6
 fn check_sixteen(block: usize, mask: usize) -> Check
-    ensures { λ c. ⌜ failed c ≡ either (isNot 16 block) (isNot 16 mask) ⌝ }
+    ensures { λ c. ⌜ failed c ≡ (isNot 16 block || isNot 16 mask) ⌝ }
 {
     let Check::Passed = refusal::check_length(block, 16) else {
         return Check::Failed;

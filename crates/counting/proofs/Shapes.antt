@@ -1,12 +1,11 @@
 -- The count facts, each once for every list of points: a permutation of a value under a fresh mask takes all values alike; so does a sum that begins with a fresh mask;
 -- a product of two values under masks of their own takes the counts of its table, whatever the table, if its rows but the first permute. Assumes nothing.
 use mathlib.Core.Path.{_≡_, refl, sym, ap, ap₂, _∙_}
-use mathlib.Core.Bool.{Bool, true, false}
+use mathlib.Core.Bool.{Bool, true, false, cond}
 use Prim.Native.Nat.{ℕ, zero, suc, _+_, _-_, _*_, _^_, _<_}
 use native.Mathlib.Omega.{arith}
 use lib.Dec.{ltb, eqb·zero-suc}
 use lib.Pow.{pow-pos}
-use Rattle.refusal.specs.Answer.{choose}
 use Rattle.fips197.specs.Field.{_⊕_}
 use Rattle.fips197.proofs.Xor.{assoc, zero-l, lt}
 use Rattle.fips197.proofs.Additive.{at-zero}
@@ -31,15 +30,15 @@ products n times inv R v pos =
     ∙ sum-add 1 (n - 1) (λ x. sum n (λ y. is (times x y) v))
     ∙ ap₂ (λ (x y : ℕ). x + (y + 0)) (sum-each (n - 1) _ (share n 1 1 v) (λ b l. evenly n _ _ (R .row (1 + b) (omega arith) (omega arith)) v pos))
     (sum-each n _ (is 0 v) (λ y l. ap (λ (w : ℕ). is w v) (R .zeros y)))
-    ∙ both n (n - 1) v
+    ∙ joined n (n - 1) v
   where
-    go : (n m : ℕ) (b : Bool) → m * choose b 1 0 + (n * 0 + 0) ≡ choose b m 0
+    go : (n m : ℕ) (b : Bool) → m * cond b 1 0 + (n * 0 + 0) ≡ cond b m 0
     go n m true = omega arith
     go n m false = omega arith
 
-    both : (n m v : ℕ) → m * share n 1 1 v + (n * is 0 v + 0) ≡ share n (m + n) m v
-    both n m zero = omega arith
-    both n m (suc v) = ap (λ (b : Bool). m * share n 1 1 (suc v) + (n * one b + 0)) (eqb·zero-suc v) ∙ go n m (ltb (suc v) n)
+    joined : (n m v : ℕ) → m * share n 1 1 v + (n * is 0 v + 0) ≡ share n (m + n) m v
+    joined n m zero = omega arith
+    joined n m (suc v) = ap (λ (b : Bool). m * share n 1 1 (suc v) + (n * one b + 0)) (eqb·zero-suc v) ∙ go n m (ltb (suc v) n)
 
 -- the rows of a field's table
 pub rows-of : (k : ℕ) (times : ℕ → ℕ → ℕ) (unit : ℕ) (inv : ℕ → ℕ) → FieldLaws k times unit inv → Rows (2 ^ k) times inv

@@ -1,9 +1,8 @@
 -- How many numbers, and how many lists of numbers, pass a test; and how often each value comes up.
 use Prim.Native.Nat.{ℕ, zero, suc, _+_, _*_}
-use mathlib.Core.Bool.{Bool, true, false}
+use mathlib.Core.Bool.{Bool, true, false, cond}
 use mathlib.Core.List.{List, [], _∷_}
 use lib.Dec.{ltb}
-use Rattle.refusal.specs.Answer.{choose}
 
 abbrev pub one : Bool → ℕ
 one true = 1
@@ -31,4 +30,4 @@ product (n ∷ ns) = n * product ns
 -- how often v comes up where zero and each other value below a bound do so many times, and no value does that is not below it
 abbrev pub share : ℕ → ℕ → ℕ → ℕ → ℕ
 share values zeros others zero = zeros
-share values zeros others (suc v) = choose (ltb (suc v) values) others 0
+share values zeros others (suc v) = cond (ltb (suc v) values) others 0

@@ -67,10 +67,6 @@ pub inv-affine-lt : (b : ℕ) → b < 256 → invAffine b < 256
 unfolding fips field
 inv-affine-lt b h = ltb→lt (invAffine b) 256 (all-at 256 (λ b. ltb (invAffine b) 256) tt b h)
 
-pub inv-linear-lt : (b : ℕ) → b < 256 → invLinear b < 256
-unfolding fips field
-inv-linear-lt b h = ltb→lt (invLinear b) 256 (all-at 256 (λ b. ltb (invLinear b) 256) tt b h)
-
 pub affine-lt : (b : ℕ) → b < 256 → affine b < 256
 unfolding fips field
 affine-lt b h = ltb→lt (affine b) 256 (all-at 256 (λ b. ltb (affine b) 256) tt b h)

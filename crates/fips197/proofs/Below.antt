@@ -1,6 +1,6 @@
 -- A rule for all numbers below n, by one computed test. Assumes nothing.
 use mathlib.Core.Path.{_≡_, refl, subst, sym}
-use mathlib.Core.Bool.{Bool, true, false}
+use mathlib.Core.Bool.{Bool, true, false, _&&_}
 use mathlib.Core.Logic.{_⊎_, _⊎_.inl, _⊎_.inr, ⊎-elim}
 use Prim.Native.Nat.{ℕ, zero, suc, _-_, _<_, _≤_}
 use native.Mathlib.Nat.{not-suc-le-zero, le-of-suc-le-suc, eq-or-lt-of-le}
@@ -8,21 +8,17 @@ use native.Mathlib.Omega.{arith}
 use lib.Dec.{T, eqb, ltb, eqb→eq}
 use borrow.Author.Tests.{ltb-true, ltb-false}
 
-abbrev pub both : Bool → Bool → Bool
-both true b = b
-both false b = false
-
-pub both-left : (a b : Bool) → T (both a b) → T a
+pub both-left : (a b : Bool) → T (a && b) → T a
 both-left true b t = tt
 both-left false b t = t
 
-pub both-right : (a b : Bool) → T (both a b) → T b
+pub both-right : (a b : Bool) → T (a && b) → T b
 both-right true b t = t
 both-right false b t = absurd t
 
 abbrev pub allb : ℕ → (ℕ → Bool) → Bool
 allb zero f = true
-allb (suc n) f = both (f n) (allb n f)
+allb (suc n) f = f n && allb n f
 
 pub all-at : (n : ℕ) (f : ℕ → Bool) → T (allb n f) → (k : ℕ) → k < n → T (f k)
 all-at zero f t k h = absurd (not-suc-le-zero h)

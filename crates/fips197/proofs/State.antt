@@ -27,9 +27,6 @@ plus-assoc (x ∷ a) [] c = refl
 plus-assoc (x ∷ a) (y ∷ b) [] = refl
 plus-assoc (x ∷ a) (y ∷ b) (z ∷ c) = ap₂ _∷_ (assoc x y z) (plus-assoc a b c)
 
-pub plus-swap4 : (a b c d : List ℕ) → a ⊞ b ⊞ (c ⊞ d) ≡ a ⊞ c ⊞ (b ⊞ d)
-plus-swap4 a b c d = plus-assoc a b (c ⊞ d) ∙ ap (λ (x : List ℕ). a ⊞ x) (sym (plus-assoc b c d) ∙ ap (λ (x : List ℕ). x ⊞ d) (plus-comm b c) ∙ plus-assoc c b d) ∙ sym (plus-assoc a c (b ⊞ d))
-
 -- a mask is taken off where it is no longer than what it masks
 pub plus-off : (a b : List ℕ) → length b ≤ length a → a ⊞ b ⊞ b ≡ a
 unfolding _⊞_
@@ -104,7 +101,3 @@ mix-linear = columns-linear 2 3 1 1
 pub inv-mix-linear : Linear invMixColumns
 unfolding invMixColumns
 inv-mix-linear = columns-linear 0x0e 0x0b 0x0d 0x09
-
-pub key-plus : (w v : List ℕ) (i : ℕ) → roundKey (w ⊞ v) i ≡ roundKey w i ⊞ roundKey v i
-unfolding roundKey
-key-plus w v i = ap (take 16) (drop-plus (16 * i) w v) ∙ take-plus 16 (drop (16 * i) w) (drop (16 * i) v)

@@ -1,12 +1,12 @@
 -- The words of an expansion: bytes where the key is, and as many as there are to be. Assumes nothing.
 use mathlib.Core.Path.{_≡_, refl, _∙_}
 use mathlib.Core.List.{List, [], _∷_, _++_}
-use mathlib.Core.Bool.{Bool, true, false}
+use mathlib.Core.Bool.{Bool, true, false, cond}
 use Prim.Native.Nat.{ℕ, zero, suc, _+_, _-_, _*_, _/_, _%_, _<_, _≤_}
 use native.Mathlib.Omega.{arith}
 use lib.Dec.{eqb, ltb, lit<}
 use lib.ListN.{length, drop, length-append, length-take, length-drop}
-use Rattle.fips197.specs.Cipher.{_⊞_, word, rotWord, subWord, power, rcon, choose, temp, expanded, keyExpansion}
+use Rattle.fips197.specs.Cipher.{_⊞_, word, rotWord, subWord, power, rcon, temp, expanded, keyExpansion}
 use Rattle.fips197.specs.Claims.{Bytes}
 use Rattle.fips197.proofs.Field.{xtime-lt}
 use Rattle.fips197.proofs.State.{length-plus}
@@ -30,15 +30,15 @@ unfolding subWord
 sub-bytes a = (sbox-lt _, (sbox-lt _, (sbox-lt _, (sbox-lt _, tt))))
 
 -- what holds of each of the three words is so of the one added
-chosen : (P : List ℕ → Type 0) (b : Bool) (x y : List ℕ) → P x → P y → P (choose b x y)
+chosen : (P : List ℕ → Type 0) (b : Bool) (x y : List ℕ) → P x → P y → P (cond b x y)
 chosen P true x y h g = h
 chosen P false x y h g = g
 
 temp-is : (P : List ℕ → Type 0) (nk i : ℕ) (a : List ℕ) → P (subWord (rotWord a) ⊞ rcon (i / nk)) → P (subWord a) → P a → P (temp nk i a)
 unfolding temp
 temp-is P nk i a p q h =
-    chosen P (eqb (i % nk) 0) (subWord (rotWord a) ⊞ rcon (i / nk)) (choose (ltb 6 nk) (choose (eqb (i % nk) 4) (subWord a) a) a) p
-    (chosen P (ltb 6 nk) (choose (eqb (i % nk) 4) (subWord a) a) a (chosen P (eqb (i % nk) 4) (subWord a) a q h) h)
+    chosen P (eqb (i % nk) 0) (subWord (rotWord a) ⊞ rcon (i / nk)) (cond (ltb 6 nk) (cond (eqb (i % nk) 4) (subWord a) a) a) p
+    (chosen P (ltb 6 nk) (cond (eqb (i % nk) 4) (subWord a) a) a (chosen P (eqb (i % nk) 4) (subWord a) a q h) h)
 
 temp-bytes : (nk i : ℕ) (a : List ℕ) → Bytes a → Bytes (temp nk i a)
 temp-bytes nk i a h = temp-is Bytes nk i a (bytes-plus (subWord (rotWord a)) (rcon (i / nk)) (sub-bytes (rotWord a)) (rcon-bytes (i / nk))) (sub-bytes a) h

@@ -2,7 +2,7 @@
 -- A word is four bytes, a state sixteen, column by column; round keys are the words one after the other, as bytes.
 use Prim.Native.Nat.{ℕ, zero, suc, _+_, _-_, _*_, _/_, _%_, _^_}
 use mathlib.Core.List.{List, [], _∷_, _++_}
-use mathlib.Core.Bool.{Bool, true, false}
+use mathlib.Core.Bool.{Bool, true, false, cond}
 use lib.ListN.{getD, take, drop}
 use lib.Dec.{eqb, ltb}
 use Rattle.fips197.specs.Field.{_⊕_, xtime, _•_, inverse}
@@ -90,14 +90,10 @@ power (suc j) = xtime (power j)
 unfoldable pub rcon : ℕ → List ℕ
 rcon j = power (j - 1) ∷ 0 ∷ 0 ∷ 0 ∷ []
 
-abbrev pub choose : Bool → List ℕ → List ℕ → List ℕ
-choose true x y = x
-choose false x y = y
-
 -- what is added to word i - nk, a being word i - 1
 unfoldable pub temp : ℕ → ℕ → List ℕ → List ℕ
 temp nk i a =
-    choose (eqb (i % nk) 0) (subWord (rotWord a) ⊞ rcon (i / nk)) (choose (ltb 6 nk) (choose (eqb (i % nk) 4) (subWord a) a) a)
+    cond (eqb (i % nk) 0) (subWord (rotWord a) ⊞ rcon (i / nk)) (cond (ltb 6 nk) (cond (eqb (i % nk) 4) (subWord a) a) a)
 
 -- the key with n words more, and the words for nr rounds
 unfoldable pub expanded : ℕ → ℕ → List ℕ → List ℕ

@@ -1,13 +1,12 @@
 -- A list of points counted part by part: the parts stand one after another in the list, and each has its counts and its rows of the table. Assumes nothing.
 use mathlib.Core.Path.{_≡_, refl, sym, ap, _∙_}
 use mathlib.Core.List.{List}
-use mathlib.Core.Bool.{Bool, true, false}
+use mathlib.Core.Bool.{Bool, true, false, cond}
 use Prim.Native.Nat.{ℕ, zero, suc, _+_, _-_, _*_, _<_, _≤_}
 use native.Mathlib.Omega.{arith}
 use lib.Dec.{ltb}
 use lib.ListN.{getD, take, drop}
 use lib.Seq.{getD-take, getD-drop}
-use Rattle.refusal.specs.Answer.{choose}
 use Rattle.counting.specs.Counting.{share}
 use Rattle.points.specs.Counts.{Row, listed}
 use Rattle.points.proofs.Total.{Spread, Drawn}
@@ -44,7 +43,7 @@ pub scaled : (c n z o v : ℕ) → c * share n z o v ≡ share n (c * z) (c * o)
 scaled c n z o zero = refl
 scaled c n z o (suc v) = go (ltb (suc v) n)
   where
-    go : (b : Bool) → c * choose b o 0 ≡ choose b (c * o) 0
+    go : (b : Bool) → c * cond b o 0 ≡ cond b (c * o) 0
     go true = refl
     go false = native.Mathlib.Nat.mul-zero c
 

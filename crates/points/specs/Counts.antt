@@ -1,9 +1,8 @@
 -- Rule 2.5, the counts: how many of the 2^26 settings of the masks give a point a value.
 use Prim.Native.Nat.{ℕ, _/_, _%_, _^_}
-use mathlib.Core.Bool.{Bool, true, false}
+use mathlib.Core.Bool.{Bool, true, false, cond}
 use mathlib.Core.List.{List, [], _∷_}
 use lib.Dec.{eqb, leb}
-use Rattle.refusal.specs.Answer.{choose}
 use Rattle.fips197.specs.Field.{_⊕_}
 use Rattle.counting.specs.Counting.{count, share}
 use Rattle.points.specs.Points.{point}
@@ -46,9 +45,9 @@ table =
 
 abbrev pub within : ℕ → List (ℕ × ℕ) → Bool
 within n [] = false
-within n ((from, to) ∷ more) = choose (leb from n) (choose (leb n to) true (within n more)) (within n more)
+within n ((from, to) ∷ more) = cond (leb from n) (cond (leb n to) true (within n more)) (within n more)
 
 -- the table's number for point n and the value v
 abbrev pub listed : List Row → ℕ → ℕ → ℕ
 listed [] n v = 0
-listed (row ∷ more) n v = choose (within n (row .points)) (share (row .values) (row .zeros) (row .others) v) (listed more n v)
+listed (row ∷ more) n v = cond (within n (row .points)) (share (row .values) (row .zeros) (row .others) v) (listed more n v)

@@ -2,7 +2,7 @@
 use Prim.Native.Nat.{ℕ}
 use mathlib.Core.Path.{_≡_, refl, sym, ap, _∙_}
 use mathlib.Core.List.{List, [], _∷_, _++_}
-use mathlib.Core.Bool.{Bool, true, false, not}
+use mathlib.Core.Bool.{Bool, true, false, not, _&&_, _||_}
 use native.Mathlib.Omega.{arith}
 use lib.Dec.{eqb}
 use borrow.Author.Tests.{eqb-true, not-false}
@@ -12,13 +12,13 @@ use Rattle.refusal.specs.declared.Check.the-variants.{Passed, Failed}
 use Rattle.refusal.specs.declared.Outcome.{Outcome}
 use Rattle.refusal.specs.declared.Outcome.the-variants.{Done, Refused}
 use Rattle.refusal.specs.Refusal.{refusal, failed}
-use Rattle.refusal.specs.Answer.{Answer, done, refused, answerNumber, numbered, first, passes, either, both, isNot, noneOf, outcome}
+use Rattle.refusal.specs.Answer.{Answer, done, refused, answerNumber, numbered, first, passes, isNot, noneOf, outcome}
 
 -- two cases that exclude each other
 pub clash : {P : Type 0} → _≡_ {A = ℕ} 0 1 → P
 clash e = absurd (omega arith)
 
-both-on : (b : Bool) → b ≡ both b true
+both-on : (b : Bool) → b ≡ (b && true)
 both-on true = refl
 both-on false = refl
 
@@ -52,15 +52,15 @@ passed-is wanted n k e p = eqb-true n wanted (not-false (eqb n wanted) (sym e �
 -- a check among several lengths: this one is it, or it is looked for among the others
 module _ (wanted x : ℕ) (others : List ℕ) (k : Check) where
   pub none-found : failed k ≡ isNot wanted x → k ≡ Passed → false ≡ noneOf (wanted ∷ others) x
-  none-found e p = ap (λ (t : Bool). both t (noneOf others x)) (sym (ap failed p) ∙ e)
+  none-found e p = ap (λ (t : Bool). (t && noneOf others x)) (sym (ap failed p) ∙ e)
 
   pub none-yet : (b : Bool) → failed k ≡ isNot wanted x → k ≡ Failed → b ≡ noneOf others x → b ≡ noneOf (wanted ∷ others) x
-  none-yet b e f h = h ∙ ap (λ (t : Bool). both t (noneOf others x)) (sym (ap failed f) ∙ e)
+  none-yet b e f h = h ∙ ap (λ (t : Bool). (t && noneOf others x)) (sym (ap failed f) ∙ e)
 
 pub none-last : (wanted x : ℕ) (b : Bool) → b ≡ isNot wanted x → b ≡ noneOf (wanted ∷ []) x
 none-last wanted x b e = e ∙ both-on (isNot wanted x)
 
-one-of : {P : Type 0} (x y z : Bool) → both (not x) (both (not y) (both (not z) true)) ≡ false → (x ≡ true → P) → (y ≡ true → P) → (z ≡ true → P) → P
+one-of : {P : Type 0} (x y z : Bool) → (not x && (not y && (not z && true))) ≡ false → (x ≡ true → P) → (y ≡ true → P) → (z ≡ true → P) → P
 one-of true y z e f g h = f refl
 one-of false true z e f g h = g refl
 one-of false false true e f g h = h refl
@@ -72,14 +72,14 @@ found a b c n k e p f g h =
     one-of (eqb n a) (eqb n b) (eqb n c) (sym e ∙ ap failed p) (λ x. f (eqb-true n a x)) (λ x. g (eqb-true n b x)) (λ x. h (eqb-true n c x))
 
 -- two checks as one: the first failed, or the second decides
-pub either-first : (a b : Bool) (k : Check) → failed k ≡ a → k ≡ Failed → true ≡ either a b
-either-first a b k e f = ap (λ (t : Bool). either t b) (sym (ap failed f) ∙ e)
+pub either-first : (a b : Bool) (k : Check) → failed k ≡ a → k ≡ Failed → true ≡ (a || b)
+either-first a b k e f = ap (λ (t : Bool). (t || b)) (sym (ap failed f) ∙ e)
 
-pub either-second : (a b : Bool) (k : Check) (x : Bool) → failed k ≡ a → k ≡ Passed → x ≡ b → x ≡ either a b
-either-second a b k x e p h = h ∙ ap (λ (t : Bool). either t b) (sym (ap failed p) ∙ e)
+pub either-second : (a b : Bool) (k : Check) (x : Bool) → failed k ≡ a → k ≡ Passed → x ≡ b → x ≡ (a || b)
+either-second a b k x e p h = h ∙ ap (λ (t : Bool). (t || b)) (sym (ap failed p) ∙ e)
 
 -- where not one of two applies, neither does
-pub neither : (a b : Bool) → either a b ≡ false → (a ≡ false) × (b ≡ false)
+pub neither : (a b : Bool) → (a || b) ≡ false → (a ≡ false) × (b ≡ false)
 neither true b e = clash cc
 neither false b e = (refl, e)
 

@@ -1,7 +1,7 @@
 -- What a call answers: done, with its values, or a refusal.
 use Prim.Native.Nat.{ℕ}
 use mathlib.Core.List.{List, [], _∷_}
-use mathlib.Core.Bool.{Bool, true, false, not}
+use mathlib.Core.Bool.{Bool, true, false, not, _&&_}
 use lib.Dec.{eqb, ltb}
 use Rattle.refusal.specs.declared.Refusal.{Refusal}
 use Rattle.refusal.specs.declared.Outcome.{Outcome}
@@ -36,26 +36,13 @@ first ((n, false) ∷ checks) deny give = first checks deny give
 unfoldable pub passes : List (ℕ × Bool) → Bool
 passes checks = first checks (λ r. false) true
 
--- what checks ask: whether a number is above the most allowed, whether one of two things applies or both do, whether a number is not the one wanted, or none of those wanted
+-- what checks ask: whether a number is above the most allowed, is not the one wanted, or is none of those wanted
 abbrev pub above : ℕ → ℕ → Bool
 above most x = ltb most x
-
-abbrev pub either : Bool → Bool → Bool
-either true b = true
-either false b = b
-
-abbrev pub both : Bool → Bool → Bool
-both true b = b
-both false b = false
-
--- the one or the other
-abbrev pub choose : {A : Type 0} → Bool → A → A → A
-choose true a b = a
-choose false a b = b
 
 abbrev pub isNot : ℕ → ℕ → Bool
 isNot wanted x = not (eqb x wanted)
 
 abbrev pub noneOf : List ℕ → ℕ → Bool
 noneOf [] x = true
-noneOf (wanted ∷ others) x = both (isNot wanted x) (noneOf others x)
+noneOf (wanted ∷ others) x = isNot wanted x && noneOf others x

@@ -1,8 +1,9 @@
 // Refusals: the kind of thing refused together with its number, the answers of a check and of a call without a value, and the checks that every crate shares.
 ghost use mathlib.Core.Path.{_≡_};
 ghost use mathlib.Core.List.{[], _∷_};
+ghost use mathlib.Core.Bool.{_||_};
 ghost use Rattle.refusal.specs.Refusal.{number, failed};
-ghost use Rattle.refusal.specs.Answer.{refused, above, either, isNot, noneOf, answerNumber, outcome};
+ghost use Rattle.refusal.specs.Answer.{refused, above, isNot, noneOf, answerNumber, outcome};
 ghost use Rattle.refusal.specs.declared.Refusal.the-variants as kinds;
 
 pub enum Refusal {
@@ -40,7 +41,7 @@ pub fn check_most(x: u8, most: u8) -> Check
 
 // Fails where one of the two is above the most allowed.
 pub fn check_both(x: u8, y: u8, most: u8) -> Check
-    ensures { λ c. ⌜ failed c ≡ either (above most x) (above most y) ⌝ }
+    ensures { λ c. ⌜ failed c ≡ (above most x || above most y) ⌝ }
 {
     let Check::Passed = check_most(x, most) else {
         return Check::Failed;

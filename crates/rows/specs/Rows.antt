@@ -1,16 +1,16 @@
 -- A table of rows, run one after the other over cells in memory. Only contracts of private functions cite it: no promise rests on it, and nobody need believe it.
 use Prim.Native.Nat.{ℕ, zero, suc}
 use mathlib.Core.List.{List, [], _∷_}
+use mathlib.Core.Bool.{cond}
 use lib.ListN.{getD, set, replicate}
 use lib.Dec.{ltb}
 use Rattle.fips197.specs.Field.{_⊕_}
 use Rattle.tower.specs.Tower.{hi, lo, join, scaledSquare, exchange, pairProduct, nibbleProduct}
-use Rattle.refusal.specs.Answer.{choose}
 use Rattle.tower.specs.declared.Record.{Record}
 
 -- the first where op is n or above, else the second
 unfoldable pub from : ℕ → ℕ → ℕ × ℕ → ℕ × ℕ → ℕ × ℕ
-from n op a b = choose (ltb op n) b a
+from n op a b = cond (ltb op n) b a
 
 -- What a row makes of its three operands: 128 a nibble product, and z with it added; 64 the same with pairs; 32 the sum of nibbles and its scaled square; 16 the same with
 -- pairs; 8 a sum, and z added; 4 two pairs exchanged; 2 the pairs of a nibble; 0 the nibble of two pairs.

@@ -3,7 +3,7 @@ use Prim.Native.Nat.{ℕ, zero, suc, _≤_, _<_}
 use native.Mathlib.Omega.{arith}
 use mathlib.Core.Path.{_≡_, refl, sym, ap, ap₂, _∙_}
 use mathlib.Core.List.{List, [], _∷_}
-use mathlib.Core.Bool.{Bool, true, false}
+use mathlib.Core.Bool.{Bool, true, false, _||_}
 use lib.ListN.{length, getD, set}
 use borrow.Author.Tests.{ne-eqb}
 use Rattle.fips197.proofs.Lists.{eta}
@@ -11,7 +11,7 @@ use Rattle.refusal.specs.declared.Refusal.{Refusal}
 use Rattle.refusal.specs.declared.Check.{Check}
 use Rattle.refusal.specs.declared.Check.the-variants.{Passed, Failed}
 use Rattle.refusal.specs.Refusal.{number, refusal, failed}
-use Rattle.refusal.specs.Answer.{Answer, done, refused, answerNumber, numbered, first, above, either, isNot}
+use Rattle.refusal.specs.Answer.{Answer, done, refused, answerNumber, numbered, first, above, isNot}
 use Rattle.refusal.proofs.First.{first-stop, first-on, all-passed, one-failed, first-part, passed-is, neither}
 use Rattle.points.specs.Points.{recordPoints}
 use Rattle.inversion.specs.declared.Masked.{Masked}
@@ -101,7 +101,7 @@ module _ {L : Type 0} (n d m r : ℕ) (rest : List (ℕ × Bool)) (lent : L) (gi
 lent-so : (d m r : ℕ) (j : Check) → failed j ≡ notLent d m r → j ≡ Passed → (d ≡ 1) × ((m ≡ 1) × (r ≡ 3))
 unfolding notLent
 lent-so d m r j h q =
-    let a = neither (isNot 1 d) (either (isNot 1 m) (isNot 3 r)) (sym h ∙ ap failed q) in
+    let a = neither (isNot 1 d) (isNot 1 m || isNot 3 r) (sym h ∙ ap failed q) in
     let b = neither (isNot 1 m) (isNot 3 r) (a .1) in
     (passed-is 1 d Passed (sym (a .0)) refl, (passed-is 1 m Passed (sym (b .0)) refl, passed-is 3 r Passed (sym (b .1)) refl))
 

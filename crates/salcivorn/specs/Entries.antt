@@ -1,9 +1,9 @@
 -- What the entries for a host in C answer: the refusal's number, 0 for done, and every lent part.
 use Prim.Native.Nat.{ℕ, zero, suc}
 use mathlib.Core.List.{List, [], _∷_}
-use mathlib.Core.Bool.{Bool}
+use mathlib.Core.Bool.{Bool, _||_}
 use lib.ListN.{length, getD}
-use Rattle.refusal.specs.Answer.{done, refused, numbered, first, above, either, isNot, noneOf}
+use Rattle.refusal.specs.Answer.{done, refused, numbered, first, above, isNot, noneOf}
 use Rattle.points.specs.Points.{recordPoints}
 use Rattle.sbox.specs.declared.Direction.{Direction}
 use Rattle.sbox.specs.declared.Direction.the-variants.{Encrypt, Decrypt}
@@ -21,7 +21,7 @@ way (suc n) = Decrypt
 
 -- 6: data and mask not one byte each, or the record not three
 unfoldable pub notLent : ℕ → ℕ → ℕ → Bool
-notLent d m r = either (isNot 1 d) (either (isNot 1 m) (isNot 3 r))
+notLent d m r = isNot 1 d || (isNot 1 m || isNot 3 r)
 
 -- the S-box: its answers stand in the lent data byte and mask byte
 unfoldable pub sboxOf : ℕ → List ℕ → List ℕ → List ℕ → ℕ × (List ℕ × List ℕ)

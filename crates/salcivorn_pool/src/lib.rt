@@ -1,15 +1,15 @@
 // What a host in C sees of the pool: its calls on byte slices. Each answers with the refusal's number, 0 for done.
 ghost use mathlib.Core.Path.{_≡_};
 ghost use Rattle.refusal.specs.Answer.{numbered};
-ghost use Rattle.sending.specs.Outstanding.{outstandingOf};
-ghost use Rattle.standby.specs.Calls.{applyOf, goAloneOf};
-ghost use Rattle.pool.specs.Calls.{addOf, takeOf, acknowledgeOf};
+ghost use Rattle.pool_sending.specs.Outstanding.{outstandingOf};
+ghost use Rattle.pool_standby.specs.Calls.{applyOf, goAloneOf};
+ghost use Rattle.pool_active.specs.Calls.{addOf, takeOf, acknowledgeOf};
 
 #[no_mangle]
 pub extern "C" fn salcivorn_pool_add(state: &mut [u8], rooms: &mut [u8], strip: &[u8]) -> u32
     ensures { λ n. ⌜ (n, (now (state .exit), now (rooms .exit))) ≡ numbered (addOf (now (state .entry)) (now (rooms .entry)) (now (strip .entry))) ⌝ }
 {
-    refusal::outcome_number(pool::add(state, rooms, strip))
+    refusal::outcome_number(pool_active::add(state, rooms, strip))
 }
 
 #[no_mangle]
@@ -21,14 +21,14 @@ pub extern "C" fn salcivorn_pool_take(
 ) -> u32
     ensures { λ n. ⌜ (n, (now (state .exit), (now (rooms .exit), (now (number .exit), now (strip .exit))))) ≡ numbered (takeOf (now (state .entry)) (now (rooms .entry)) (now (number .entry)) (now (strip .entry))) ⌝ }
 {
-    refusal::outcome_number(pool::take(state, rooms, number, strip))
+    refusal::outcome_number(pool_active::take(state, rooms, number, strip))
 }
 
 #[no_mangle]
 pub extern "C" fn salcivorn_pool_outstanding(state: &[u8], rooms: &[u8], message: &mut [u8]) -> u32
     ensures { λ n. ⌜ (n, now (message .exit)) ≡ numbered (outstandingOf (now (state .entry)) (now (rooms .entry)) (now (message .entry))) ⌝ }
 {
-    refusal::outcome_number(sending::outstanding(state, rooms, message))
+    refusal::outcome_number(pool_sending::outstanding(state, rooms, message))
 }
 
 #[no_mangle]
@@ -41,7 +41,7 @@ pub extern "C" fn salcivorn_pool_acknowledge(
 ) -> u32
     ensures { λ n. ⌜ (n, (now (state .exit), (now (rooms .exit), (now (number .exit), now (strip .exit))))) ≡ numbered (acknowledgeOf (now (state .entry)) (now (rooms .entry)) (now (acknowledgement .entry)) (now (number .entry)) (now (strip .entry))) ⌝ }
 {
-    refusal::outcome_number(pool::acknowledge(state, rooms, acknowledgement, number, strip))
+    refusal::outcome_number(pool_active::acknowledge(state, rooms, acknowledgement, number, strip))
 }
 
 #[no_mangle]
@@ -53,12 +53,12 @@ pub extern "C" fn salcivorn_pool_apply(
 ) -> u32
     ensures { λ n. ⌜ (n, (now (state .exit), (now (rooms .exit), now (acknowledgement .exit)))) ≡ numbered (applyOf (now (state .entry)) (now (rooms .entry)) (now (message .entry)) (now (acknowledgement .entry))) ⌝ }
 {
-    refusal::outcome_number(standby::apply(state, rooms, message, acknowledgement))
+    refusal::outcome_number(pool_standby::apply(state, rooms, message, acknowledgement))
 }
 
 #[no_mangle]
 pub extern "C" fn salcivorn_pool_go_alone(state: &mut [u8]) -> u32
     ensures { λ n. ⌜ (n, now (state .exit)) ≡ numbered (goAloneOf (now (state .entry))) ⌝ }
 {
-    refusal::outcome_number(standby::go_alone(state))
+    refusal::outcome_number(pool_standby::go_alone(state))
 }

@@ -2,12 +2,12 @@
 use Prim.Native.Nat.{ℕ, zero, suc, _+_, _*_, _≤_, _<_}
 use mathlib.Core.Path.{_≡_, refl, sym, ap, _∙_}
 use mathlib.Core.List.{List, [], _∷_}
-use mathlib.Core.Bool.{Bool, true, false, not}
+use mathlib.Core.Bool.{Bool, true, false, not, _&&_, _||_}
 use native.Mathlib.Omega.{arith}
 use lib.ListN.{length, getD, take, drop}
 use lib.Dec.{eqb}
 use borrow.Author.Tests.{lt-ltb, le-ltb, ltb-false, eqb-true, not-false}
-use Rattle.refusal.specs.Answer.{Answer, done, refused, first, above, either, both, outcome, passes}
+use Rattle.refusal.specs.Answer.{Answer, done, refused, first, above, outcome, passes}
 use Rattle.refusal.specs.declared.Refusal.{Refusal}
 use Rattle.refusal.specs.declared.Check.the-variants.{Passed}
 use Rattle.refusal.specs.declared.Outcome.{Outcome}
@@ -25,16 +25,16 @@ pub record Fit (s : List ℕ) (size : ℕ) : Type 0 where
   pub there : (i : ℕ) → 4 + 3 * i + 3 ≤ length s → recordPart s i ≡ take 3 (drop (4 + 3 * i) s)
   pub small : (i : ℕ) → 4 + 3 * i + 3 ≤ length s → getD s (4 + 3 * i + 2) 0 ≤ 3
 
-both-true : (a b : Bool) → both a b ≡ true → (a ≡ true) × (b ≡ true)
+both-true : (a b : Bool) → (a && b) ≡ true → (a ≡ true) × (b ≡ true)
 both-true true b e = (refl, e)
 both-true false b e = clash cc
 
-either-right : (a b : Bool) → either a b ≡ false → b ≡ false
+either-right : (a b : Bool) → (a || b) ≡ false → b ≡ false
 either-right true b e = clash cc
 either-right false b e = e
 
 -- one of three, where not none
-one-of : (a b c : Bool) {P : Type 0} → not (either a (either b (either c false))) ≡ false → (a ≡ true → P) → (b ≡ true → P) → (c ≡ true → P) → P
+one-of : (a b c : Bool) {P : Type 0} → not (a || (b || (c || false))) ≡ false → (a ≡ true → P) → (b ≡ true → P) → (c ≡ true → P) → P
 one-of true b c e f g h = f refl
 one-of false true c e f g h = g refl
 one-of false false true e f g h = h refl

@@ -2,7 +2,7 @@
 use Prim.Native.Nat.{ℕ, _+_, _-_, _*_, _/_, _≤_, _<_}
 use mathlib.Core.Path.{_≡_, refl, sym, ap, _∙_}
 use mathlib.Core.List.{List, [], _∷_, _++_, append-nil}
-use mathlib.Core.Bool.{Bool, true, false}
+use mathlib.Core.Bool.{Bool, true, false, _||_}
 use native.Mathlib.Nat.{add-sub-cancel-left}
 use native.Mathlib.Omega.{arith}
 use lib.ListN.{length, getD, take, drop, set, replicate, length-set, length-take, length-drop, drop-of-length-le}
@@ -13,14 +13,14 @@ use borrow.Rule.Slice.PartMut.{same-len-mid}
 use Rattle.refusal.specs.declared.Check.{Check}
 use Rattle.refusal.specs.declared.Check.the-variants.{Passed}
 use Rattle.refusal.specs.Refusal.{failed}
-use Rattle.refusal.specs.Answer.{above, either, isNot}
+use Rattle.refusal.specs.Answer.{above, isNot}
 use Rattle.strip.specs.Strip.{lengthField, version, keySize, recordBytes, badFraming, spent, unknownVersion, wrongRecordBytes, badThird, badRecord, wholeRecord, wiped}
 
-pub either-false : (a b : Bool) → either a b ≡ false → a ≡ false
+pub either-false : (a b : Bool) → (a || b) ≡ false → a ≡ false
 either-false true b e = e
 either-false false b e = refl
 
-either-no : (a : Bool) → either a false ≡ a
+either-no : (a : Bool) → (a || false) ≡ a
 either-no true = refl
 either-no false = refl
 
@@ -81,7 +81,7 @@ unfolding wrongRecordBytes
 bytes-other s v x y z = rw (v, ne-eqb _ _ x, ne-eqb _ _ y, ne-eqb _ _ z) refl
 
 -- the records, one more at a time
-third-first : (l : List ℕ) → 3 ≤ length l → badThird l ≡ either (above 3 (getD l 2 0)) (badThird (drop 3 l))
+third-first : (l : List ℕ) → 3 ≤ length l → badThird l ≡ (above 3 (getD l 2 0) || badThird (drop 3 l))
 unfolding badThird
 third-first [] h = absurd (omega arith)
 third-first (a ∷ []) h = absurd (omega arith)
@@ -96,7 +96,7 @@ third-none (a ∷ b ∷ []) h = refl
 third-none (a ∷ b ∷ third ∷ l) h = absurd (omega arith)
 
 module _ (s : List ℕ) (i : ℕ) where
-  pub third-at : 4 + 3 * i + 3 ≤ length s → badThird (drop (4 + 3 * i) s) ≡ either (above 3 (getD s (4 + 3 * i + 2) 0)) (badThird (drop (4 + 3 * i + 3) s))
+  pub third-at : 4 + 3 * i + 3 ≤ length s → badThird (drop (4 + 3 * i) s) ≡ (above 3 (getD s (4 + 3 * i + 2) 0) || badThird (drop (4 + 3 * i + 3) s))
   third-at h = rw (← getD-drop (4 + 3 * i) s 2 0, ← drop-drop 3 (4 + 3 * i) s) (third-first (drop (4 + 3 * i) s) (omega (arith, length-drop (4 + 3 * i) s)))
 
   -- none of the records before this one is bad

@@ -1,10 +1,10 @@
 -- What a strip is, on its list of bytes; when each refusal applies to it; which part of it is a record; and what is left of it when it has served.
 use Prim.Native.Nat.{ℕ, _+_, _-_, _*_}
 use mathlib.Core.List.{List, [], _∷_, _++_}
-use mathlib.Core.Bool.{Bool, true, false, not}
+use mathlib.Core.Bool.{Bool, true, false, not, cond, _&&_, _||_}
 use lib.ListN.{length, getD, take, drop, set, replicate}
 use lib.Dec.{eqb, ltb}
-use Rattle.refusal.specs.Answer.{Answer, done, refused, first, above, either, both, isNot, noneOf}
+use Rattle.refusal.specs.Answer.{Answer, done, refused, first, above, isNot, noneOf}
 
 -- rule 3.2: how many bytes follow the length field, the version, the key size, and the number of record bytes
 abbrev pub lengthField : List ℕ → ℕ
@@ -24,16 +24,16 @@ abbrev pub forms : List (ℕ × (ℕ × ℕ))
 forms = (1, (16, 3 * 160)) ∷ (1, (24, 3 * 192)) ∷ (1, (32, 3 * 224)) ∷ []
 
 abbrev pub sameForm : (ℕ × (ℕ × ℕ)) → (ℕ × (ℕ × ℕ)) → Bool
-sameForm (v, (k, n)) (w, (l, m)) = both (eqb v w) (both (eqb k l) (eqb n m))
+sameForm (v, (k, n)) (w, (l, m)) = eqb v w && (eqb k l && eqb n m)
 
 -- whether something holds of one of a list
 abbrev pub some : {A : Type 0} → (A → Bool) → List A → Bool
 some p [] = false
-some p (x ∷ xs) = either (p x) (some p xs)
+some p (x ∷ xs) = p x || some p xs
 
 -- 7: too short for its first four bytes, or a length field that is not its size less 2
 unfoldable pub badFraming : List ℕ → Bool
-badFraming s = either (ltb (length s) 4) (isNot (length s - 2) (lengthField s))
+badFraming s = ltb (length s) 4 || isNot (length s - 2) (lengthField s)
 
 -- 11: spent
 unfoldable pub spent : List ℕ → Bool
@@ -41,7 +41,7 @@ spent s = eqb (version s) 0
 
 -- 8: neither spent nor of the version of a form
 unfoldable pub unknownVersion : List ℕ → Bool
-unknownVersion s = not (either (eqb (version s) 0) (some (λ f. eqb (version s) (f .0)) forms))
+unknownVersion s = not (eqb (version s) 0 || some (λ f. eqb (version s) (f .0)) forms)
 
 -- 12: no form has this key size and this number of record bytes
 unfoldable pub wrongRecordBytes : List ℕ → Bool
@@ -52,7 +52,7 @@ unfoldable pub badThird : List ℕ → Bool
 badThird [] = false
 badThird (a ∷ []) = false
 badThird (a ∷ b ∷ []) = false
-badThird (a ∷ b ∷ third ∷ records) = either (above 3 third) (badThird records)
+badThird (a ∷ b ∷ third ∷ records) = above 3 third || badThird records
 
 abbrev pub badRecord : List ℕ → Bool
 badRecord s = badThird (drop 4 s)
@@ -76,13 +76,9 @@ formOf s size = first (blockChecks s size) refused (done tt)
 abbrev pub ownFormOf : List ℕ → Answer (Unit {0})
 ownFormOf s = first (ownChecks s) refused (done tt)
 
-abbrev pub unless : Bool → List ℕ → List ℕ
-unless true part = []
-unless false part = part
-
 -- rule 3.4: the record of an index, from the fifth byte on; nothing where the whole record is not there
 unfoldable pub wholeRecord : List ℕ → ℕ → List ℕ
-wholeRecord s index = unless (ltb (length s) (4 + 3 * index + 3)) (take 3 (drop (4 + 3 * index) s))
+wholeRecord s index = cond (ltb (length s) (4 + 3 * index + 3)) [] (take 3 (drop (4 + 3 * index) s))
 
 -- nor where 7, 8 or 11 applies to the strip
 abbrev pub recordPart : List ℕ → ℕ → List ℕ

@@ -2,12 +2,12 @@
 use mathlib.Core.Path.{_≡_, refl, sym, ap, ap₂, _∙_}
 use mathlib.Core.List.{List, [], _∷_}
 use Prim.Native.Nat.{ℕ, _/_, _%_, _^_, _<_}
-use mathlib.Core.Bool.{Bool, true}
+use mathlib.Core.Bool.{Bool, true, _&&_}
 use native.Mathlib.Nat.{mod-lt}
 use lib.Dec.{T, ltb, ltb→lt, lit<}
 use lib.ListN.{length}
 use Rattle.fips197.specs.Field.{field, _⊕_, _•_}
-use Rattle.fips197.proofs.Below.{eq1, eq2, both, both-left, both-right}
+use Rattle.fips197.proofs.Below.{eq1, eq2, both-left, both-right}
 use Rattle.fips197.proofs.Xor.{self, swap4, lt, two-pos}
 use Rattle.fips197.proofs.Additive.{Additive, agree, bit-times}
 use Rattle.fips197.proofs.Field.{product-left, product-right, bit-times-lt}
@@ -17,7 +17,7 @@ use Rattle.tower.proofs.Level.{left-distributive, byteLaws}
 
 abbrev allBytes : List ℕ → Bool
 allBytes [] = true
-allBytes (c ∷ cs) = both (ltb c 256) (allBytes cs)
+allBytes (c ∷ cs) = ltb c 256 && allBytes cs
 
 pub added-additive : (cs : List ℕ) → Additive (added cs)
 unfolding added

@@ -3,8 +3,9 @@ ghost use mathlib.Core.Path.{_≡_};
 ghost use Prim.Native.Nat.{_*_, _<_};
 ghost use lib.ListN.{length};
 ghost use mathlib.Core.List.{[], _∷_};
+ghost use mathlib.Core.Bool.{_||_};
 ghost use Rattle.refusal.specs.Refusal.{failed};
-ghost use Rattle.refusal.specs.Answer.{first, done, refused, above, either};
+ghost use Rattle.refusal.specs.Answer.{first, done, refused, above};
 ghost use Rattle.tower.specs.Tower.{fromTower, toTower, pairProduct, pairInverse, nibbleProduct, nibbleInverse, byteProduct, byteInverse, added};
 ghost use Rattle.tower.specs.Answers.{element};
 use refusal::Check;
@@ -121,7 +122,7 @@ fn answer(check: Check, value: u8) -> Element
 }
 
 pub fn pair_product(x: u8, y: u8) -> Element
-    ensures { λ r. ⌜ element r ≡ first ((1, either (above 3 x) (above 3 y)) ∷ []) refused (done (pairProduct x y)) ⌝ }
+    ensures { λ r. ⌜ element r ≡ first ((1, (above 3 x || above 3 y)) ∷ []) refused (done (pairProduct x y)) ⌝ }
 {
     answer(refusal::check_both(x, y, 3), low::pair_times(x, y))
 }
@@ -133,7 +134,7 @@ pub fn pair_inverse(x: u8) -> Element
 }
 
 pub fn nibble_product(x: u8, y: u8) -> Element
-    ensures { λ r. ⌜ element r ≡ first ((1, either (above 15 x) (above 15 y)) ∷ []) refused (done (nibbleProduct x y)) ⌝ }
+    ensures { λ r. ⌜ element r ≡ first ((1, (above 15 x || above 15 y)) ∷ []) refused (done (nibbleProduct x y)) ⌝ }
 {
     answer(refusal::check_both(x, y, 15), low::nibble_times(x, y))
 }

@@ -1,6 +1,6 @@
 -- The worked examples, by computation; the way back from InvCipher undoing Cipher. Assumes nothing.
 use mathlib.Core.Path.{_≡_, refl, sym, ap, _∙_}
-use mathlib.Core.Bool.{Bool, true}
+use mathlib.Core.Bool.{Bool, true, _&&_}
 use mathlib.Core.List.{List, [], _∷_}
 use Prim.Native.Nat.{ℕ, _<_}
 use lib.Dec.{T, ltb, ltb→lt, lit<}
@@ -8,7 +8,7 @@ use lib.ListN.{take}
 use Rattle.fips197.specs.Field.{field}
 use Rattle.fips197.specs.Cipher.{fips, cipher, invCipher, keyExpansion}
 use Rattle.fips197.specs.Claims.{Bytes}
-use Rattle.fips197.proofs.Below.{both, both-left, both-right}
+use Rattle.fips197.proofs.Below.{both-left, both-right}
 use Rattle.fips197.proofs.Claims.{undone}
 use Rattle.fips197.proofs.Words.{expansion-bytes}
 use Rattle.vectors.specs.Vectors as specs
@@ -31,7 +31,7 @@ block = refl
 
 abbrev small : List ℕ → Bool
 small [] = true
-small (x ∷ l) = both (ltb x 256) (small l)
+small (x ∷ l) = ltb x 256 && small l
 
 bytes : (l : List ℕ) → T (small l) → Bytes l
 bytes [] t = tt

@@ -1,0 +1,81 @@
+-- What each call of a pool refuses, in the order of rule 7.9: the numbers, each with whether it applies.
+use Prim.Native.Nat.{ℕ, suc, _-_}
+use mathlib.Core.List.{List, [], _∷_, _++_}
+use mathlib.Core.Bool.{Bool, true, false, not, _&&_, _||_}
+use lib.ListN.{drop}
+use lib.Dec.{eqb, ltb}
+use Rattle.refusal.specs.Answer.{passes, isNot}
+use Rattle.strip.specs.Strip.{ownChecks}
+use Rattle.pool_rooms.specs.Rooms.{roomsSize}
+use Rattle.pool_message.specs.Message.{readOf}
+use Rattle.pool_message.specs.declared.Message.{Message}
+use Rattle.pool_message.specs.declared.Message.the-variants.{Adds, Takes, Acknowledges, Unreadable}
+use Rattle.pool_state.specs.declared.State.{State}
+use Rattle.pool_state.specs.State.{standby, stateIn, sent, noState}
+use Rattle.pool_master.specs.Master.{waiting, usedUp, noRoom, noneHeld, isStandby}
+
+-- 6, rule 7.10: state or rooms not lent as they must be; or a further part not of its size; for a strip handed out, its number not as four bytes or the strip not as 676
+unfoldable pub notLent : List ℕ → ℕ → Bool
+notLent st rooms = noState st || isNot roomsSize rooms
+
+unfoldable pub notLentWith : ℕ → List ℕ → ℕ → ℕ → Bool
+notLentWith size st rooms part = notLent st rooms || isNot size part
+
+unfoldable pub notLentOut : List ℕ → ℕ → ℕ → ℕ → Bool
+notLentOut st rooms number strip = notLentWith 4 st rooms number || isNot 676 strip
+
+-- ---- adding, which a standby does not: 23 and 24, then the strip's own, then 14
+abbrev pub addChecks : List ℕ → ℕ → List ℕ → List (ℕ × Bool)
+addChecks st rooms s =
+    (6, (notLent st rooms || isStandby (stateIn st))) ∷ (23, waiting (stateIn st)) ∷ (24, usedUp (stateIn st)) ∷ ownChecks s ++ ((14, noRoom (stateIn st)) ∷ [])
+
+-- ---- taking: 23 and 24, then 15
+abbrev pub takeChecks : List ℕ → ℕ → ℕ → ℕ → List (ℕ × Bool)
+takeChecks st rooms number strip =
+    (6, (notLentOut st rooms number strip || isStandby (stateIn st))) ∷ (23, waiting (stateIn st)) ∷ (24, usedUp (stateIn st)) ∷ (15, noneHeld (stateIn st)) ∷ []
+
+-- ---- the outstanding message
+abbrev pub outstandingChecks : List ℕ → ℕ → ℕ → List (ℕ × Bool)
+outstandingChecks st rooms message = (6, notLentWith 688 st rooms message) ∷ []
+
+-- ---- an acknowledgement
+abbrev pub isAcknowledgement : Message → Bool
+isAcknowledgement (Adds k n) = false
+isAcknowledgement (Takes k n) = false
+isAcknowledgement (Acknowledges k) = true
+isAcknowledgement Unreadable = false
+
+abbrev pub acknowledgeChecks : List ℕ → ℕ → List ℕ → ℕ → ℕ → List (ℕ × Bool)
+acknowledgeChecks st rooms bytes number strip = (6, notLentOut st rooms number strip) ∷ (16, not (isAcknowledgement (readOf bytes))) ∷ []
+
+-- ---- at the standby. Rule 7.8: what a message adds must be of good form, find room and have the next number; what it takes must be the lowest held
+unfoldable pub fits : State → Message → List ℕ → Bool
+fits m (Adds k n) s = passes (ownChecks s) && (ltb (m .added - m .taken) 64 && eqb n (suc (m .added)))
+fits m (Takes k n) s = ltb (m .taken) (m .added) && eqb n (suc (m .taken))
+fits m (Acknowledges k) s = false
+fits m Unreadable s = false
+
+abbrev pub isMessage : Message → Bool
+isMessage (Adds k n) = true
+isMessage (Takes k n) = true
+isMessage (Acknowledges k) = false
+isMessage Unreadable = false
+
+abbrev pub sequence : Message → ℕ
+sequence (Adds k n) = k
+sequence (Takes k n) = k
+sequence (Acknowledges k) = k
+sequence Unreadable = 0
+
+-- 16: no standby or one that is alone, no message, one beyond the next, or a next one that does not fit
+unfoldable pub notApplied : State → Message → List ℕ → Bool
+notApplied m x s =
+    isNot standby (m .role) || (not (isMessage x) || (ltb (suc (sent m)) (sequence x) || (eqb (sequence x) (suc (sent m)) && not (fits m x s))))
+
+-- the strip of a message is all from its thirteenth byte on
+abbrev pub applyChecks : List ℕ → ℕ → List ℕ → ℕ → List (ℕ × Bool)
+applyChecks st rooms bytes acknowledgement = (6, notLentWith 8 st rooms acknowledgement) ∷ (16, notApplied (stateIn st) (readOf bytes) (drop 12 bytes)) ∷ []
+
+-- ---- going on alone, which no active master does
+abbrev pub goAloneChecks : List ℕ → List (ℕ × Bool)
+goAloneChecks st = (6, (noState st || ltb (stateIn st .role) standby)) ∷ []

@@ -1,0 +1,246 @@
+// What the calls of a pool refuse: one check for each call, of its name. Nothing is changed here.
+ghost use mathlib.Core.Path.{_≡_};
+ghost use mathlib.Core.List.{[], _∷_, _++_};
+ghost use mathlib.Core.Bool.{not};
+ghost use lib.ListN.{drop};
+ghost use Rattle.refusal.specs.Refusal.{failed};
+ghost use Rattle.refusal.specs.Answer.{done, refused, first, outcome};
+ghost use Rattle.strip.specs.Strip.{ownChecks};
+ghost use Rattle.pool_message.specs.Message.{readOf};
+ghost use Rattle.pool_message.specs.declared.Message.the-variants as sort;
+ghost use Rattle.pool_master.specs.Master.{noRoom};
+ghost use Rattle.pool_checks.specs.Checks.{notLent, notLentWith, notLentOut, addChecks, takeChecks, outstandingChecks, isAcknowledgement, acknowledgeChecks, fits, isMessage, sequence, notApplied, applyChecks, goAloneChecks};
+ghost use Rattle.pool_checks.specs.Inner.{senderOf};
+use pool_message::Message;
+use pool_state::State;
+use refusal::Check;
+use refusal::Outcome;
+
+// 6
+fn check_lent(state: &[u8], rooms: usize) -> Check
+    ensures { λ c. ⌜ failed c ≡ notLent (now (state .entry)) rooms ⌝ }
+{
+    let Check::Passed = pool_state::check(state) else {
+        return Check::Failed;
+    };
+    refusal::check_length(rooms, 43264)
+}
+
+// 6, with a further part that has one size
+fn check_lent_with(size: usize, state: &[u8], rooms: usize, part: usize) -> Check
+    ensures { λ c. ⌜ failed c ≡ notLentWith size (now (state .entry)) rooms part ⌝ }
+{
+    let Check::Passed = check_lent(state, rooms) else {
+        return Check::Failed;
+    };
+    refusal::check_length(part, size)
+}
+
+// 6, for a strip that is handed out
+fn check_lent_out(state: &[u8], rooms: usize, number: usize, strip: usize) -> Check
+    ensures { λ c. ⌜ failed c ≡ notLentOut (now (state .entry)) rooms number strip ⌝ }
+{
+    let Check::Passed = check_lent_with(4, state, rooms, number) else {
+        return Check::Failed;
+    };
+    refusal::check_length(strip, 676)
+}
+
+// The strip's own refusals, then 14.
+fn check_strip(master: State, strip: &[u8]) -> Outcome
+    ensures { λ r. ⌜ outcome r ≡ first (ownChecks (now (strip .entry)) ++ ((14, noRoom master) ∷ [])) refused (done tt) ⌝ }
+{
+    let own = strip::check_own(strip);
+    let Outcome::Done = own else {
+        return own;
+    };
+    let Check::Passed = pool_master::check_room(master) else {
+        return refusal::pool(14);
+    };
+    Outcome::Done
+}
+
+// What adding and taking refuse alike, from the check of what is lent: 6, also to a standby, then 23, 24.
+fn check_sender(lent: Check, master: State) -> Outcome
+    ensures { λ r. ⌜ outcome r ≡ senderOf (failed lent) master ⌝ }
+{
+    let Check::Passed = lent else {
+        return refusal::buffer(6);
+    };
+    let Check::Passed = pool_master::check_not_standby(master) else {
+        return refusal::buffer(6);
+    };
+    pool_master::check_sending(master)
+}
+
+pub fn add(state: &[u8], rooms: usize, strip: &[u8]) -> Outcome
+    ensures { λ r. ⌜ outcome r ≡ first (addChecks (now (state .entry)) rooms (now (strip .entry))) refused (done tt) ⌝ }
+{
+    let master = pool_state::read(state);
+    let sender = check_sender(check_lent(state, rooms), master);
+    let Outcome::Done = sender else {
+        return sender;
+    };
+    check_strip(master, strip)
+}
+
+pub fn take(state: &[u8], rooms: usize, number: usize, strip: usize) -> Outcome
+    ensures { λ r. ⌜ outcome r ≡ first (takeChecks (now (state .entry)) rooms number strip) refused (done tt) ⌝ }
+{
+    let master = pool_state::read(state);
+    let sender = check_sender(check_lent_out(state, rooms, number, strip), master);
+    let Outcome::Done = sender else {
+        return sender;
+    };
+    let Check::Passed = pool_master::check_held(master) else {
+        return refusal::pool(15);
+    };
+    Outcome::Done
+}
+
+pub fn outstanding(state: &[u8], rooms: usize, message: usize) -> Outcome
+    ensures { λ r. ⌜ outcome r ≡ first (outstandingChecks (now (state .entry)) rooms message) refused (done tt) ⌝ }
+{
+    let Check::Passed = check_lent_with(688, state, rooms, message) else {
+        return refusal::buffer(6);
+    };
+    Outcome::Done
+}
+
+fn check_acknowledgement(asked: Message) -> Check
+    ensures { λ c. ⌜ failed c ≡ not (isAcknowledgement asked) ⌝ }
+{
+    match asked {
+        Message::Adds(_, _) => Check::Failed,
+        Message::Takes(_, _) => Check::Failed,
+        Message::Acknowledges(_) => Check::Passed,
+        Message::Unreadable => Check::Failed,
+    }
+}
+
+pub fn acknowledge(
+    state: &[u8],
+    rooms: usize,
+    acknowledgement: &[u8],
+    number: usize,
+    strip: usize,
+) -> Outcome
+    ensures { λ r. ⌜ outcome r ≡ first (acknowledgeChecks (now (state .entry)) rooms (now (acknowledgement .entry)) number strip) refused (done tt) ⌝ }
+{
+    let Check::Passed = check_lent_out(state, rooms, number, strip) else {
+        return refusal::buffer(6);
+    };
+    let Check::Passed = check_acknowledgement(pool_message::read(acknowledgement)) else {
+        return refusal::message(16);
+    };
+    Outcome::Done
+}
+
+fn fits_adding(master: State, number: u32, strip: &[u8]) -> bool
+    ensures { λ r. ⌜ r ≡ fits master (sort.Adds 0 number) (now (strip .entry)) ⌝ }
+{
+    let Outcome::Done = strip::check_own(strip) else {
+        return false; // of bad form
+    };
+    if pool_state::wide(master.taken) + 64 <= pool_state::wide(master.added) {
+        return false; // to a full pool
+    }
+    pool_state::wide(number) == pool_state::wide(master.added) + 1
+}
+
+fn fits_taking(master: State, number: u32) -> bool
+    ensures { λ r. ⌜ r ≡ fits master (sort.Takes 0 number) [] ⌝ }
+{
+    let Check::Passed = pool_master::check_held(master) else {
+        return false;
+    };
+    pool_state::wide(number) == pool_state::wide(master.taken) + 1
+}
+
+// Whether what a message asks for can be done next.
+fn fits_next(master: State, asked: Message, message: &[u8]) -> bool
+    requires { ⌜ asked ≡ readOf (now message) ⌝ }
+    ensures { λ r. ⌜ r ≡ fits master asked (drop 12 (now (message .entry))) ⌝ }
+{
+    match asked {
+        Message::Adds(_, number) => fits_adding(master, number, &message[12..]),
+        Message::Takes(_, number) => fits_taking(master, number),
+        Message::Acknowledges(_) => false,
+        Message::Unreadable => false,
+    }
+}
+
+fn check_kind(asked: Message) -> Check
+    ensures { λ c. ⌜ failed c ≡ not (isMessage asked) ⌝ }
+{
+    match asked {
+        Message::Adds(_, _) => Check::Passed,
+        Message::Takes(_, _) => Check::Passed,
+        Message::Acknowledges(_) => Check::Failed,
+        Message::Unreadable => Check::Failed,
+    }
+}
+
+pub fn sequence_of(asked: Message) -> u32
+    ensures { λ k. ⌜ k ≡ sequence asked ⌝ }
+{
+    match asked {
+        Message::Adds(sequence, _) => sequence,
+        Message::Takes(sequence, _) => sequence,
+        Message::Acknowledges(sequence) => sequence,
+        Message::Unreadable => 0,
+    }
+}
+
+// 16
+fn check_message(master: State, asked: Message, message: &[u8]) -> Check
+    requires { ⌜ asked ≡ readOf (now message) ⌝ }
+    ensures { λ c. ⌜ failed c ≡ notApplied master asked (drop 12 (now (message .entry))) ⌝ }
+{
+    if master.role != 3 {
+        return Check::Failed;
+    }
+    let Check::Passed = check_kind(asked) else {
+        return Check::Failed;
+    };
+    let next = pool_state::sent(master) + 1;
+    let number = pool_state::wide(sequence_of(asked));
+    if next < number {
+        return Check::Failed;
+    }
+    if number != next {
+        return Check::Passed;
+    }
+    if fits_next(master, asked, message) {
+        return Check::Passed;
+    }
+    Check::Failed
+}
+
+pub fn apply(state: &[u8], rooms: usize, message: &[u8], acknowledgement: usize) -> Outcome
+    ensures { λ r. ⌜ outcome r ≡ first (applyChecks (now (state .entry)) rooms (now (message .entry)) acknowledgement) refused (done tt) ⌝ }
+{
+    let Check::Passed = check_lent_with(8, state, rooms, acknowledgement) else {
+        return refusal::buffer(6);
+    };
+    let Check::Passed = check_message(
+        pool_state::read(state),
+        pool_message::read(message),
+        message,
+    ) else {
+        return refusal::message(16);
+    };
+    Outcome::Done
+}
+
+pub fn go_alone(state: &[u8]) -> Outcome
+    ensures { λ r. ⌜ outcome r ≡ first (goAloneChecks (now (state .entry))) refused (done tt) ⌝ }
+{
+    let Check::Passed = pool_state::check(state) else {
+        return refusal::buffer(6);
+    };
+    if pool_state::read(state).role < 3 {
+        return refusal::buffer(6); // an active master does not
+    }
+    Outcome::Done
+}
