@@ -99,6 +99,7 @@ fn mix(part: &mut [u8], round: usize, rounds: usize)
 }
 
 // A round of 5.1, on data and mask; the round key goes to the data alone. Rounds count from 0, as the records of the strip do.
+// Between the row shifts of the two parts stand the data's columns, so that no register goes from a data byte to its mask byte.
 fn encrypt_round(
     block: &mut [u8],
     mask: &mut [u8],
@@ -113,8 +114,8 @@ fn encrypt_round(
 {
     substitute_bytes(Direction::Encrypt, block, mask, strip, round);
     aes::shift_rows(block);
-    aes::shift_rows(mask);
     mix(block, round, rounds);
+    aes::shift_rows(mask);
     mix(mask, round, rounds);
     aes::add_round_key(block, round_keys, round + 1);
 }

@@ -1,267 +1,271 @@
-// The points of the masked inversion as rows of a table, run one after the other over cells in memory: so the compiler has no sum to reorder, and no part to put beside its mask.
+// The points of the masked inversion, straight through. Every product and every running sum is stored in its cell as soon as it is made, and the cells are the
+// caller's: so the compiler has no sum to reorder. No two cells stand side by side: so it has no part to put beside its mask.
 ghost use mathlib.Core.Path.{_≡_};
-ghost use Prim.Native.Nat.{_+_, _<_};
-ghost use lib.ListN.{replicate, set, length};
+ghost use Prim.Native.Nat.{_<_};
+ghost use lib.ListN.{length, drop, getD};
 ghost use Rattle.points.specs.Points.{maskedInverse, recordPoints};
-ghost use Rattle.rows.specs.Rows.{made, rowRun, ran, rows, start, put, rowRecorded, recorded};
+ghost use Rattle.cells.specs.Cells.{withMask, pointsFrom, cellsOfPoints, recorded};
 use tower::Record;
-use tower::halves;
-use tower::low;
+use tower::lookup;
 
-// What a row does; the frequent ones are the largest, so that they are tested first.
-const NIBBLE_PRODUCT: u8 = 128;
+fn wide_pair(x: u8) -> u32
+    ensures { λ r. ⌜ (r ≡ x) × (r < 256) ⌝ }
+{
+    x as u32
+}
 
-const PAIR_PRODUCT: u8 = 64;
+// The one computation of the 62 points, left in cells 2, 4, .., 124. The mask comes in cell 0, so that no register carries it beside the masked byte. The answer is points
+// 54 and 62 joined. The products are taken in such an order that neither a register nor the flags go from a part to its mask; the running sums keep the order of document 01.
+fn make_points(cells: &mut [u8; 126], masked: u8, record: Record) -> u8
+    requires { ⌜ now cells ≡ withMask (getD (now cells) 0 0) ⌝ }
+    ensures { λ v. ⌜ (v ≡ maskedInverse masked (getD (now (cells .entry)) 0 0) «record») × (length (now (cells .exit)) ≡ 126) × (pointsFrom 62 (drop 2 (now (cells .exit))) ≡ recordPoints masked (getD (now (cells .entry)) 0 0) «record») ⌝ }
+{
+    // What Q alone determines, then the mask, then r: mask to mask tells nothing, and what the masked byte overwrites is mostly the record.
+    let mask = cells[0];
+    let q = lookup::high_nibble(record.qt);
+    let q1 = lookup::high_pair(q);
+    let q0 = lookup::low_pair(q);
+    let p17 = q1 ^ q0;
+    cells[34] = p17 as u8;
+    let p18 = lookup::pair_square(p17);
+    cells[36] = p18 as u8;
+    let t = lookup::low_nibble(record.qt);
+    let row_t = lookup::row(t);
+    let m1 = lookup::high_nibble(mask);
+    let m0 = lookup::low_nibble(mask);
+    let p3 = m1 ^ m0;
+    cells[6] = p3 as u8;
+    let p4 = lookup::nibble_square(p3);
+    cells[8] = p4 as u8;
+    let row_m1 = lookup::row(m1);
+    let p8 = lookup::entry(row_m1, m0);
+    cells[16] = p8 as u8;
+    let r = wide_pair(record.r);
+    let p30 = lookup::exchange(r);
+    cells[60] = p30 as u8;
+    let row_q1 = lookup::pair_row(q1);
+    let row_p30 = lookup::pair_row(p30);
+    let p22 = lookup::pair_entry(row_q1, q0);
+    cells[44] = p22 as u8;
+    // What the masked byte determines. Each product has an operand of the one before it, and no part stands beside its mask.
+    let a1 = lookup::high_nibble(masked);
+    let a0 = lookup::low_nibble(masked);
+    let p1 = a1 ^ a0;
+    cells[2] = p1 as u8;
+    let p2 = lookup::nibble_square(p1);
+    cells[4] = p2 as u8;
+    let row_a1 = lookup::row(a1);
+    let p56 = lookup::entry(row_t, a1);
+    cells[112] = p56 as u8;
+    let p5 = lookup::entry(row_a1, a0);
+    cells[10] = p5 as u8;
+    let p48 = lookup::entry(row_t, a0);
+    cells[96] = p48 as u8;
+    let p7 = lookup::entry(row_m1, a0);
+    cells[14] = p7 as u8;
+    let p58 = lookup::entry(row_t, m1);
+    cells[116] = p58 as u8;
+    let p50 = lookup::entry(row_t, m0);
+    cells[100] = p50 as u8;
+    let p6 = lookup::entry(row_a1, m0);
+    cells[12] = p6 as u8;
+    // Q first, then the sums in order.
+    let p9 = q ^ p2;
+    cells[18] = p9 as u8;
+    let p10 = p9 ^ p4;
+    cells[20] = p10 as u8;
+    let p11 = p10 ^ p5;
+    cells[22] = p11 as u8;
+    let p12 = p11 ^ p6;
+    cells[24] = p12 as u8;
+    let p13 = p12 ^ p7;
+    cells[26] = p13 as u8;
+    let p14 = p13 ^ p8;
+    cells[28] = p14 as u8;
+    // The same one level down: b is point 14, under the mask Q.
+    let b1 = lookup::high_pair(p14);
+    let b0 = lookup::low_pair(p14);
+    let p15 = b1 ^ b0;
+    cells[30] = p15 as u8;
+    let p16 = lookup::pair_square(p15);
+    cells[32] = p16 as u8;
+    let row_b1 = lookup::pair_row(b1);
+    let p40 = lookup::pair_entry(row_p30, b1);
+    cells[80] = p40 as u8;
+    let p19 = lookup::pair_entry(row_b1, b0);
+    cells[38] = p19 as u8;
+    let p32 = lookup::pair_entry(row_p30, b0);
+    cells[64] = p32 as u8;
+    let p21 = lookup::pair_entry(row_q1, b0);
+    cells[42] = p21 as u8;
+    let p42 = lookup::pair_entry(row_p30, q1);
+    cells[84] = p42 as u8;
+    let p34 = lookup::pair_entry(row_p30, q0);
+    cells[68] = p34 as u8;
+    let p20 = lookup::pair_entry(row_b1, q0);
+    cells[40] = p20 as u8;
+    // r first.
+    let p23 = r ^ p16;
+    cells[46] = p23 as u8;
+    let p24 = p23 ^ p18;
+    cells[48] = p24 as u8;
+    let p25 = p24 ^ p19;
+    cells[50] = p25 as u8;
+    let p26 = p25 ^ p20;
+    cells[52] = p26 as u8;
+    let p27 = p26 ^ p21;
+    cells[54] = p27 as u8;
+    let p28 = p27 ^ p22;
+    cells[56] = p28 as u8;
+    // Points 31 to 46, e under the mask T.
+    let p29 = lookup::exchange(p28);
+    cells[58] = p29 as u8;
+    let row_p29 = lookup::pair_row(p29);
+    let p39 = lookup::pair_entry(row_p29, b1);
+    cells[78] = p39 as u8;
+    let p31 = lookup::pair_entry(row_p29, b0);
+    cells[62] = p31 as u8;
+    let p41 = lookup::pair_entry(row_p29, q1);
+    cells[82] = p41 as u8;
+    let p33 = lookup::pair_entry(row_p29, q0);
+    cells[66] = p33 as u8;
+    let t1 = lookup::high_pair(t);
+    let p35 = t1 ^ p31;
+    cells[70] = p35 as u8;
+    let p36 = p35 ^ p32;
+    cells[72] = p36 as u8;
+    let p37 = p36 ^ p33;
+    cells[74] = p37 as u8;
+    let p38 = p37 ^ p34;
+    cells[76] = p38 as u8;
+    let t0 = lookup::low_pair(t);
+    let p43 = t0 ^ p39;
+    cells[86] = p43 as u8;
+    let p44 = p43 ^ p40;
+    cells[88] = p44 as u8;
+    let p45 = p44 ^ p41;
+    cells[90] = p45 as u8;
+    let p46 = p45 ^ p42;
+    cells[92] = p46 as u8;
+    let e = lookup::join_pairs(p38, p46);
+    // Points 47 to 62, the answer under the mask S.
+    let row_e = lookup::row(e);
+    let p47 = lookup::entry(row_e, a0);
+    cells[94] = p47 as u8;
+    let p55 = lookup::entry(row_e, a1);
+    cells[110] = p55 as u8;
+    let p49 = lookup::entry(row_e, m0);
+    cells[98] = p49 as u8;
+    let p57 = lookup::entry(row_e, m1);
+    cells[114] = p57 as u8;
+    let s1 = lookup::high_nibble(record.s);
+    let p51 = s1 ^ p47;
+    cells[102] = p51 as u8;
+    let p52 = p51 ^ p48;
+    cells[104] = p52 as u8;
+    let p53 = p52 ^ p49;
+    cells[106] = p53 as u8;
+    let p54 = p53 ^ p50;
+    cells[108] = p54 as u8;
+    let s0 = lookup::low_nibble(record.s);
+    let p59 = s0 ^ p55;
+    cells[118] = p59 as u8;
+    let p60 = p59 ^ p56;
+    cells[120] = p60 as u8;
+    let p61 = p60 ^ p57;
+    cells[122] = p61 as u8;
+    let p62 = p61 ^ p58;
+    cells[124] = p62 as u8;
+    lookup::join_nibbles(p54, p62)
+}
 
-const NIBBLE_SQUARE: u8 = 32;
-
-const PAIR_SQUARE: u8 = 16;
-
-const SUM: u8 = 8;
-
-const EXCHANGE: u8 = 4;
-
-const SPLIT: u8 = 2;
-
-const JOIN: u8 = 0;
-
-// Cell n is point n, from 1 to 62. The halves of the masked byte and of what is made of it, of its mask, and of the record stand apart.
-const A1: u8 = 65;
-
-const A0: u8 = 66;
-
-const B1: u8 = 67;
-
-const B0: u8 = 68;
-
-const E: u8 = 69;
-
-const SPARE: u8 = 70;
-
-const M1: u8 = 97;
-
-const M0: u8 = 98;
-
-const R: u8 = 130;
-
-const Q: u8 = 131;
-
-const T: u8 = 132;
-
-const Q1: u8 = 133;
-
-const Q0: u8 = 134;
-
-const T1: u8 = 135;
-
-const T0: u8 = 136;
-
-const S1: u8 = 137;
-
-const S0: u8 = 138;
-
-// A row: what it does, the cells of its three operands, and the two cells it makes.
-const ROWS: [[u8; 6]; 33] = [
-    [NIBBLE_SQUARE, A1, A0, A0, 1, 2],
-    [NIBBLE_SQUARE, M1, M0, M0, 3, 4],
-    [SUM, Q, 2, 4, 9, 10],
-    [NIBBLE_PRODUCT, A1, A0, 10, 5, 11],
-    [NIBBLE_PRODUCT, A1, M0, 11, 6, 12],
-    [NIBBLE_PRODUCT, A0, M1, 12, 7, 13],
-    [NIBBLE_PRODUCT, M1, M0, 13, 8, 14],
-    [SPLIT, 14, 14, 14, B1, B0],
-    [PAIR_SQUARE, B1, B0, B0, 15, 16],
-    [PAIR_SQUARE, Q1, Q0, Q0, 17, 18],
-    [SUM, R, 16, 18, 23, 24],
-    [PAIR_PRODUCT, B1, B0, 24, 19, 25],
-    [PAIR_PRODUCT, B1, Q0, 25, 20, 26],
-    [PAIR_PRODUCT, B0, Q1, 26, 21, 27],
-    [PAIR_PRODUCT, Q1, Q0, 27, 22, 28],
-    [EXCHANGE, 28, 28, R, 29, 30],
-    [PAIR_PRODUCT, B0, 29, T1, 31, 35],
-    [PAIR_PRODUCT, B0, 30, 35, 32, 36],
-    [PAIR_PRODUCT, Q0, 29, 36, 33, 37],
-    [PAIR_PRODUCT, Q0, 30, 37, 34, 38],
-    [PAIR_PRODUCT, B1, 29, T0, 39, 43],
-    [PAIR_PRODUCT, B1, 30, 43, 40, 44],
-    [PAIR_PRODUCT, Q1, 29, 44, 41, 45],
-    [PAIR_PRODUCT, Q1, 30, 45, 42, 46],
-    [JOIN, 38, 46, 46, E, SPARE],
-    [NIBBLE_PRODUCT, A0, E, S1, 47, 51],
-    [NIBBLE_PRODUCT, A0, T, 51, 48, 52],
-    [NIBBLE_PRODUCT, M0, E, 52, 49, 53],
-    [NIBBLE_PRODUCT, M0, T, 53, 50, 54],
-    [NIBBLE_PRODUCT, A1, E, S0, 55, 59],
-    [NIBBLE_PRODUCT, A1, T, 59, 56, 60],
-    [NIBBLE_PRODUCT, M1, E, 60, 57, 61],
-    [NIBBLE_PRODUCT, M1, T, 61, 58, 62],
+const CELLS: [u8; 62] = [
+    2,
+    4,
+    6,
+    8,
+    10,
+    12,
+    14,
+    16,
+    18,
+    20,
+    22,
+    24,
+    26,
+    28,
+    30,
+    32,
+    34,
+    36,
+    38,
+    40,
+    42,
+    44,
+    46,
+    48,
+    50,
+    52,
+    54,
+    56,
+    58,
+    60,
+    62,
+    64,
+    66,
+    68,
+    70,
+    72,
+    74,
+    76,
+    78,
+    80,
+    82,
+    84,
+    86,
+    88,
+    90,
+    92,
+    94,
+    96,
+    98,
+    100,
+    102,
+    104,
+    106,
+    108,
+    110,
+    112,
+    114,
+    116,
+    118,
+    120,
+    122,
+    124,
 ];
 
-struct Two {
-    one: u8,
-    two: u8,
+fn table() -> [u8; 62]
+    ensures { λ r. ⌜ r ≡ cellsOfPoints ⌝ }
+{
+    CELLS
 }
 
 fn wide(x: u8) -> usize
-    ensures { λ r. ⌜ (r ≡ x) × (r < 256) ⌝ }
+    ensures { λ r. ⌜ r ≡ x ⌝ }
 {
     x as usize
 }
 
-// What a row makes of its operands.
-fn step(op: u8, x: u8, y: u8, z: u8) -> Two
-    ensures { λ r. ⌜ (r .one, r .two) ≡ made op x y z ⌝ }
+// The points from their cells to the buffer, one at a time: the table keeps the compiler from taking many at once.
+fn write_points(cells: &[u8; 126], points: &mut [u8])
+    requires { ⌜ length (now points) ≡ 62 ⌝ }
+    ensures { λ _. ⌜ now (points .exit) ≡ recorded 62 (now (cells .entry)) (now (points .entry)) ⌝ }
 {
-    if op >= NIBBLE_PRODUCT {
-        let v = low::nibble_times(x, y);
-        return Two { one: v, two: z ^ v };
-    }
-    if op >= PAIR_PRODUCT {
-        let v = low::pair_times(x, y);
-        return Two { one: v, two: z ^ v };
-    }
-    if op >= NIBBLE_SQUARE {
-        let v = x ^ y;
-        let w = low::nibble_square(v);
-        return Two { one: v, two: w };
-    }
-    if op >= PAIR_SQUARE {
-        let v = x ^ y;
-        let w = low::pair_square(v);
-        return Two { one: v, two: w };
-    }
-    if op >= SUM {
-        let v = x ^ y;
-        return Two { one: v, two: v ^ z };
-    }
-    if op >= EXCHANGE {
-        let v = low::exchange(x);
-        let w = low::exchange(z);
-        return Two { one: v, two: w };
-    }
-    if op >= SPLIT {
-        let v = halves::high_pair(x);
-        let w = halves::low_pair(x);
-        return Two { one: v, two: w };
-    }
-    let v = halves::join_pairs(x, y);
-    Two { one: v, two: z }
-}
-
-fn table() -> [[u8; 6]; 33]
-    ensures { λ r. ⌜ r ≡ rows ⌝ }
-{
-    ROWS
-}
-
-// One row: the cells of its operands read, its two cells written.
-fn run_row(row: [u8; 6], cells: &mut [u8; 256])
-    ensures { λ _. ⌜ now (cells .exit) ≡ rowRun row (now (cells .entry)) ⌝ }
-{
-    let x = wide(row[1]);
-    let y = wide(row[2]);
-    let z = wide(row[3]);
-    let d = wide(row[4]);
-    let e = wide(row[5]);
-    let made = step(row[0], cells[x], cells[y], cells[z]);
-    cells[d] = made.one;
-    cells[e] = made.two;
-}
-
-fn run(cells: &mut [u8; 256])
-    ensures { λ _. ⌜ now (cells .exit) ≡ ran rows 33 (now (cells .entry)) ⌝ }
-{
-    let rows = table();
+    let table = table();
     let mut i: usize = 0;
-    while i < 33 {
-        run_row(rows[i], cells);
-        i += 1;
-    }
-}
-
-// Two halves of one part, in two cells side by side.
-fn place(cells: &mut [u8; 256], at: usize, high: u8, low: u8)
-    requires { ⌜ at < 255 ⌝ }
-    ensures { λ _. ⌜ now (cells .exit) ≡ set (set (now (cells .entry)) at high) (at + 1) low ⌝ }
-{
-    cells[at] = high;
-    cells[at + 1] = low;
-}
-
-// The cells before the first row.
-fn fill(cells: &mut [u8; 256], masked: u8, mask: u8, record: Record)
-    requires { ⌜ now cells ≡ replicate 256 0 ⌝ }
-    ensures { λ _. ⌜ now (cells .exit) ≡ start masked mask «record» ⌝ }
-{
-    let q = halves::high_nibble(record.qt);
-    let t = halves::low_nibble(record.qt);
-    place(
-        cells,
-        65,
-        halves::high_nibble(masked),
-        halves::low_nibble(masked),
-    );
-    place(
-        cells,
-        97,
-        halves::high_nibble(mask),
-        halves::low_nibble(mask),
-    );
-    cells[130] = record.r;
-    cells[131] = q;
-    cells[132] = t;
-    place(cells, 133, halves::high_pair(q), halves::low_pair(q));
-    place(cells, 135, halves::high_pair(t), halves::low_pair(t));
-    place(
-        cells,
-        137,
-        halves::high_nibble(record.s),
-        halves::low_nibble(record.s),
-    );
-}
-
-// The one computation of the 62 points, left in cells 1 to 62. The answer is points 54 and 62 joined.
-fn make_points(cells: &mut [u8; 256], masked: u8, mask: u8, record: Record) -> u8
-    requires { ⌜ now cells ≡ replicate 256 0 ⌝ }
-    ensures { λ r. ⌜ (r ≡ maskedInverse masked mask «record») × (now (cells .exit) ≡ ran rows 33 (start masked mask «record»)) ⌝ }
-{
-    fill(cells, masked, mask, record);
-    run(cells);
-    let high = cells[54];
-    let low = cells[62];
-    halves::join_nibbles(high, low)
-}
-
-// Point n of the buffer, where it has one.
-fn put_point(points: &mut [u8], n: usize, v: u8)
-    ensures { λ _. ⌜ now (points .exit) ≡ put (now (points .entry)) n v ⌝ }
-{
-    if n == 0 {
-        return;
-    }
-    if n <= points.len() {
-        points[n - 1] = v;
-    }
-}
-
-// The two points of a row, one at a time, so that no register holds both.
-fn write_row(row: [u8; 6], cells: &[u8; 256], points: &mut [u8])
-    ensures { λ _. ⌜ now (points .exit) ≡ rowRecorded row (now (cells .entry)) (now (points .entry)) ⌝ }
-{
-    let d = wide(row[4]);
-    let e = wide(row[5]);
-    put_point(points, d, cells[d]);
-    put_point(points, e, cells[e]);
-}
-
-// The points from their cells to the buffer, in the rows' order.
-fn write_points(cells: &[u8; 256], points: &mut [u8])
-    ensures { λ _. ⌜ now (points .exit) ≡ recorded rows 33 (now (cells .entry)) (now (points .entry)) ⌝ }
-{
-    let rows = table();
-    let mut i: usize = 0;
-    while i < 33 {
-        write_row(rows[i], cells, points);
+    while i < 62 {
+        let cell = wide(table[i]);
+        points[i] = cells[cell];
         i += 1;
     }
 }
@@ -270,16 +274,18 @@ fn write_points(cells: &[u8; 256], points: &mut [u8])
 pub fn invert(masked: u8, mask: u8, record: Record) -> u8
     ensures { λ r. ⌜ r ≡ maskedInverse masked mask «record» ⌝ }
 {
-    let mut cells = [0u8; 256];
-    make_points(&mut cells, masked, mask, record)
+    let mut cells = [0u8; 126];
+    cells[0] = mask;
+    make_points(&mut cells, masked, record)
 }
 
 pub fn invert_points(masked: u8, mask: u8, record: Record, points: &mut [u8]) -> u8
     requires { ⌜ length (now points) ≡ 62 ⌝ }
     ensures { λ r. ⌜ (r ≡ maskedInverse masked mask «record») × (now (points .exit) ≡ recordPoints masked mask «record») ⌝ }
 {
-    let mut cells = [0u8; 256];
-    let inverse = make_points(&mut cells, masked, mask, record);
+    let mut cells = [0u8; 126];
+    cells[0] = mask;
+    let inverse = make_points(&mut cells, masked, record);
     write_points(&cells, points);
     inverse
 }

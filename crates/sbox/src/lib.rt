@@ -4,6 +4,8 @@ ghost use Rattle.fips197.specs.Cipher.{linear, invLinear, sbox};
 ghost use Rattle.inversion.specs.Answers.{byteAndMask};
 ghost use Rattle.sbox.specs.Sbox.{enter, leave, substituted, substitutedWithPoints};
 use inversion::Masked;
+use refusal::Check;
+use refusal::Refusal;
 use tower::Record;
 
 pub enum Direction {
@@ -59,13 +61,17 @@ fn leave(direction: Direction, x: u8, constant: u8) -> u8
 }
 
 // The S-box on a masked byte: data and mask go in and come back each on its own way, and meet in the inversion alone.
-// The mask's way back depends on the record alone, so it is taken apart from the data's.
+// The mask's way back depends on the record alone, so it is taken apart from the data's, and before it: between mask and data every register holds the record's S.
+// The record is checked first, so that the compiler leaves the three ways in this order.
 pub fn substitute(direction: Direction, data: u8, mask: u8, record: Record) -> Masked
     ensures { λ v. ⌜ byteAndMask v ≡ substituted direction «data» mask «record» ⌝ }
 {
-    let a = enter(direction, data, 0x05);
+    let Check::Passed = refusal::check_most(record.r, 3) else {
+        return Masked::Refused(Refusal::Operand(2));
+    };
     let m = enter(direction, mask, 0x00);
     let outgoing = leave(direction, record.s, 0x00);
+    let a = enter(direction, data, 0x05);
     let inverted = inversion::invert(a, m, record);
     let Masked::Byte(value, _) = inverted else {
         return inverted;
@@ -84,9 +90,15 @@ pub fn substitute_points(
 ) -> Masked
     ensures { λ v. ⌜ (byteAndMask v, now (points .exit)) ≡ substitutedWithPoints direction «data» mask «record» (now (points .entry)) ⌝ }
 {
-    let a = enter(direction, data, 0x05);
+    let Check::Passed = refusal::check_length(points.len(), 62) else {
+        return Masked::Refused(Refusal::Buffer(3));
+    };
+    let Check::Passed = refusal::check_most(record.r, 3) else {
+        return Masked::Refused(Refusal::Operand(2));
+    };
     let m = enter(direction, mask, 0x00);
     let outgoing = leave(direction, record.s, 0x00);
+    let a = enter(direction, data, 0x05);
     let inverted = inversion::invert_points(a, m, record, points);
     let Masked::Byte(value, _) = inverted else {
         return inverted;

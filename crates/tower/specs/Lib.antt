@@ -1,3 +1,4 @@
 pub mod Tower
 pub mod Answers
 pub mod Claims
+pub mod Low

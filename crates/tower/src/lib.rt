@@ -12,6 +12,7 @@ use refusal::Check;
 use refusal::Refusal;
 
 pub mod halves;
+pub mod lookup;
 pub mod low;
 
 // A pair or a nibble, or the refusal of an operand.

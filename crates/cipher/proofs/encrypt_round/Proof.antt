@@ -33,7 +33,7 @@ same-length-2 : tie.Need-same-length-2
 same-length-2 c = search needs
 
 returns : tie.Need-returns
-returns c = round-done _ _ _ _ _ _ _ _ _ _ _ _ _ (c .before .before .before .before .before .before .before .before .before .before .before .before .before .before .before .before .before .before .before .before .before .before .before .before .substitute-bytes .ensures) (omega arith) (omega arith) (c .before .before .before .before .before .before .before .before .before .before .before .before .before .before .before .before .before .before .shift-rows .ensures) (c .before .before .before .before .before .before .before .before .before .before .before .before .before .before .shift-rows2 .ensures) (c .before .before .before .before .before .before .before .before .before .before .mix .ensures) (c .before .before .before .before .before .before .mix2 .ensures) (omega arith) (c .before .before .before .before .before .before .before .before .before .before .before .before .before .before .before .before .before .before .before .before .before .before .before .before .before .before .before .before .before .before .before .pre .1 .1 .1) (c .before .before .add-round-key .ensures)
+returns c = round-done _ _ _ _ _ _ _ _ _ _ _ _ _ (c .before .before .before .before .before .before .before .before .before .before .before .before .before .before .before .before .before .before .before .before .before .before .before .before .substitute-bytes .ensures) (omega arith) (omega arith) (c .before .before .before .before .before .before .before .before .before .before .before .before .before .before .before .before .before .before .shift-rows .ensures) (c .before .before .before .before .before .before .before .before .before .before .shift-rows2 .ensures) (c .before .before .before .before .before .before .before .before .before .before .before .before .before .before .mix .ensures) (c .before .before .before .before .before .before .mix2 .ensures) (omega arith) (c .before .before .before .before .before .before .before .before .before .before .before .before .before .before .before .before .before .before .before .before .before .before .before .before .before .before .before .before .before .before .before .pre .1 .1 .1) (c .before .before .add-round-key .ensures)
 
 pub encrypt-round-spec : {M : Type 1} → statement M
 encrypt-round-spec =
@@ -41,8 +41,8 @@ encrypt-round-spec =
     (tie.spec
     substitute-bytes-requires
     shift-rows-requires
-    shift-rows-requires-2
     mix-requires
+    shift-rows-requires-2
     mix-requires-2
     add-add-round-key
     add-round-key-requires

@@ -1,7 +1,7 @@
 -- `inversion::invert_points` meets its contract: from the answers of the two checks and the inner computation. Assumes nothing.
 use borrow.Author.Needs.{needs}
 use Rattle.refusal.proofs.First.{first-stop, first-on, first-done, passed-is}
-use Rattle.rows.proofs.Table.{answer-and-points}
+use Rattle.cells.proofs.Made.{answer-and-points}
 use Rattle.inversion.proofs.invert_points.Statement.{statement}
 use Rattle.inversion.proofs.invert_points.Tie as tie
 

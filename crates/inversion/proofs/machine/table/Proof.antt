@@ -1,11 +1,11 @@
--- `inversion::machine::table` meets its contract: the code's table is the one of the theorem. Assumes nothing.
+-- `inversion::machine::table` meets its contract: the code's list of cells is the one of `cells`, by computation. Assumes nothing.
 use mathlib.Core.Path.{refl}
-use Rattle.rows.specs.Rows.{rows}
+use Rattle.cells.specs.Cells.{cellsOfPoints}
 use Rattle.inversion.proofs.machine.table.Statement.{statement}
 use Rattle.inversion.proofs.machine.table.Tie as tie
 
 returns : tie.Need-returns
-unfolding rows
+unfolding cellsOfPoints
 returns c = refl
 
 pub table-spec : {M : Type 1} → statement M

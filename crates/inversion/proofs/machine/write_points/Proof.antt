@@ -1,21 +1,20 @@
--- `inversion::machine::write_points` meets its contract: the loop's invariant: the buffer has the points of the rows passed. Assumes nothing.
+-- `inversion::machine::write_points` meets its contract: the first i points are put, each from its cell. Assumes nothing.
 use mathlib.Core.Path.{_≡_}
 use mathlib.Core.List.{List}
 use Prim.Native.Nat.{ℕ, _≤_, _-_}
 use native.Mathlib.Omega.{arith}
 use lib.ListN.{length}
 use borrow.Author.Needs.{needs}
-use Rattle.rows.proofs.Table.{recorded-next, recorded-all}
-use Rattle.rows.specs.Rows.{recorded}
-use Rattle.rows.specs.Rows as Rows
+use Rattle.cells.proofs.Made.{cell-fits, recorded-next, recorded-all}
+use Rattle.cells.specs.Cells.{recorded}
 use Rattle.inversion.proofs.machine.write_points.Statement.{statement}
 use Rattle.inversion.proofs.machine.write_points.Tie as tie
 
 abbrev Inv-loop : tie.InvT-loop
-Inv-loop cells points₀ rows i₀ points i = (i ≤ 33) × (_≡_ {A = List ℕ} points (recorded Rows.rows i cells points₀)) × (length {A = ℕ} points ≡ length {A = ℕ} points₀)
+Inv-loop cells points₀ table i₀ points i = (i ≤ 62) × (_≡_ {A = List ℕ} points (recorded i cells points₀)) × (length {A = ℕ} points ≡ 62)
 
 abbrev μ-loop : tie.MeasureT-loop
-μ-loop cells points₀ rows i₀ points i = 33 - i
+μ-loop cells points₀ table i₀ points i = 62 - i
 
 table-requires : tie.Need-table-requires Inv-loop μ-loop
 table-requires c κs = search needs
@@ -24,14 +23,17 @@ loop-holds : tie.Need-loop-holds Inv-loop μ-loop
 unfolding recorded
 loop-holds c = search needs
 
-mul-write-row : tie.Need-mul-write-row Inv-loop μ-loop
-mul-write-row c = search needs
+array-read-wide : tie.Need-array-read-wide Inv-loop μ-loop
+array-read-wide c = search needs
 
-array-copy-out-write-row : tie.Need-array-copy-out-write-row Inv-loop μ-loop
-array-copy-out-write-row c = search needs
+wide-requires : tie.Need-wide-requires Inv-loop μ-loop
+wide-requires c κs = search needs
 
-write-row-requires : tie.Need-write-row-requires Inv-loop μ-loop
-write-row-requires c κs = search needs
+element-copy-out-points : tie.Need-element-copy-out-points Inv-loop μ-loop
+element-copy-out-points c = cell-fits _ _ (omega arith) (c .before .before .before .table .ensures) (c .wide .ensures)
+
+slice-write-points : tie.Need-slice-write-points Inv-loop μ-loop
+slice-write-points c = search needs
 
 add-i : tie.Need-add-i Inv-loop μ-loop
 add-i c = search needs
@@ -40,7 +42,7 @@ loop-less : tie.Need-loop-less Inv-loop μ-loop
 loop-less c = search needs
 
 loop-again : tie.Need-loop-again Inv-loop μ-loop
-loop-again c = (omega arith, recorded-next _ _ _ _ _ _ (c .before .before .before .before .before .before .before .table .ensures) (c .before .before .before .before .before .before .loop .inv .1) (c .before .before .write-row .ensures), search needs)
+loop-again c = (omega arith, recorded-next _ _ _ _ _ (c .before .before .before .before .table .ensures) (c .before .before .before .loop .inv .1) (c .before .wide .ensures), search needs)
 
 same-length : tie.Need-same-length Inv-loop μ-loop
 same-length c = search needs
@@ -56,9 +58,10 @@ write-points-spec =
     μ-loop
     table-requires
     loop-holds
-    mul-write-row
-    array-copy-out-write-row
-    write-row-requires
+    array-read-wide
+    wide-requires
+    element-copy-out-points
+    slice-write-points
     add-i
     loop-less
     loop-again
