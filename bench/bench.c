@@ -12,7 +12,7 @@
 #include <string.h>
 
 /* The limit is that of an encryption under a key of 16 bytes. */
-enum { RUNS = 20, LIMIT = 300000, VERSIONS = 3 };
+enum { RUNS = 20, LIMIT = 110000, VERSIONS = 3 };
 
 static const struct library *const versions[VERSIONS] = {&archive, &plain_tables, &plain_computed};
 

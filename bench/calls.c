@@ -49,12 +49,12 @@ static size_t rounds(size_t key_len)
     return key_len / 4 + 6;
 }
 
-static size_t round_keys_len(size_t key_len)
+size_t calls_round_keys_len(size_t key_len)
 {
     return SALCIVORN_BLOCK_SIZE * (rounds(key_len) + 1);
 }
 
-static size_t strip_len(size_t key_len)
+size_t calls_strip_len(size_t key_len)
 {
     return 4 + SALCIVORN_RECORD_SIZE * SALCIVORN_BLOCK_SIZE * rounds(key_len);
 }
@@ -84,7 +84,7 @@ static void fill_bytes(struct buffers *buffers, unsigned long run)
 
 static void frame_strip(uint8_t *strip, size_t key_len)
 {
-    size_t length = strip_len(key_len);
+    size_t length = calls_strip_len(key_len);
 
     strip[0] = (uint8_t)((length - 2) >> 8);
     strip[1] = (uint8_t)(length - 2);
@@ -96,7 +96,7 @@ static void frame_strip(uint8_t *strip, size_t key_len)
 
 void calls_expand(struct buffers *buffers, size_t key_len)
 {
-    if (salcivorn_expand(buffers->key, key_len, buffers->round_keys, round_keys_len(key_len)) != SALCIVORN_DONE)
+    if (salcivorn_expand(buffers->key, key_len, buffers->round_keys, calls_round_keys_len(key_len)) != SALCIVORN_DONE)
         abort();
 }
 
@@ -122,9 +122,9 @@ uint32_t calls_make(const struct library *library, const struct call *call, stru
         return library->sbox_points(direction, buffers->data, 1, buffers->mask, 1, buffers->record,
                                     sizeof buffers->record, buffers->points, sizeof buffers->points);
     case EXPAND:
-        return library->expand(buffers->key, key_len, buffers->round_keys, round_keys_len(key_len));
+        return library->expand(buffers->key, key_len, buffers->round_keys, calls_round_keys_len(key_len));
     default:
         return library->block(direction, buffers->data, sizeof buffers->data, buffers->mask, sizeof buffers->mask,
-                              buffers->round_keys, round_keys_len(key_len), buffers->strip, strip_len(key_len));
+                              buffers->round_keys, calls_round_keys_len(key_len), buffers->strip, calls_strip_len(key_len));
     }
 }

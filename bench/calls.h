@@ -41,6 +41,10 @@ struct buffers {
     uint8_t strip[SALCIVORN_STRIP_SIZE_32];
 };
 
+/* How many bytes a block call takes with a key of this length. */
+size_t calls_round_keys_len(size_t key_len);
+size_t calls_strip_len(size_t key_len);
+
 /* Run 0 has all bits zero and run 1 all bits set, where an inversion or a product could have a short
  * way; the others are pseudo-random. The round keys are those of the key. */
 void calls_fill(struct buffers *buffers, const struct call *call, unsigned long run);

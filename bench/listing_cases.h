@@ -7,9 +7,9 @@
 
 #include <stdbool.h>
 
-/* What a case must show: no register depends on the secret; only bare round keys in the function
- * that adds them; or, in a case that is known to be bad, some register does. */
-enum expected { INDEPENDENT, ROUND_KEYS_ONLY, FOUND };
+/* What a case must show: nothing depends on the secret; or, in a case that is known to be bad, a value
+ * does, or a transition does and no value. */
+enum expected { INDEPENDENT, VALUES_FOUND, TRANSITIONS_FOUND };
 
 enum place { IN_DATA, IN_KEY };
 
@@ -22,10 +22,13 @@ struct listing_case {
     bool unmasked; /* the masks of the data stay 0 */
     uint8_t secrets[4][2];
     unsigned secret_pairs;
+    unsigned long bad_pairs; /* of calls, in a known-bad case; 0 in the others */
 };
 
-enum { LISTING_CASES = 13 };
+enum { LISTING_CASES = 23 };
 extern const struct listing_case listing_cases[LISTING_CASES];
+
+bool listing_known_bad(const struct listing_case *listing);
 
 void listing_prepare(void);
 

@@ -3,20 +3,27 @@
 #define BENCH_LISTING_TABLE_H
 
 #include "listing_cases.h"
+#include "watch.h"
 
 /* A figure above this is a finding. */
-static const double table_threshold = 7.0;
+static const double table_threshold = 7.5;
 
 /* Starts the rows of a case. */
 void table_begin(void);
 
-/* Adds what watch.h has counted with these two secrets, and names each register that depends on them. */
+/* Adds what watch.h has counted with these two secrets, and names each value and transition that
+ * depends on them. */
 void table_add(const struct listing_case *listing, const uint8_t *secrets);
 
-/* Prints the rows of the case and gives the number of registers in them that depend on a secret. */
-unsigned long table_print(const struct listing_case *listing);
+/* Prints the rows of the case and counts the values and transitions in them that depend on a secret. */
+struct findings {
+    unsigned long depend[KINDS];
+};
+struct findings table_print(const struct listing_case *listing);
 
-/* How many classes and histograms were compared, over all registers and pairs of secrets. */
+void table_print_head(void);
+
+/* How many classes and histograms were compared, over all steps, registers and pairs of secrets. */
 uint64_t table_comparisons(void);
 
 /* Names the archive's functions that no case reached. True if these are the key expansion's alone. */

@@ -4,6 +4,7 @@
 #include <signal.h>
 #include <stdbool.h>
 #include <stdlib.h>
+#include <string.h>
 #include <ucontext.h>
 
 enum { TRAP_FLAG = 0x100, ARITHMETIC_FLAGS = 0x8d5, STACK_SIZE = 1 << 16 };
@@ -40,22 +41,27 @@ __asm__(".text\n.globl step_enter\n.globl step_resume\n.globl step_end\n"
         "step_end:\n");
 
 static step_observer *observe;
-static struct registers before, after;
+static struct registers two[2], *before = &two[0], *after = &two[1];
 static uint64_t address; /* of the instruction that runs next; 0 when its registers are not known */
 static uint64_t thinned, draws;
 static unsigned thinned_every = 1;
+static uint32_t outer, inner, entered; /* steps outside the thinned function, steps since its entry, its calls */
+static uint64_t inner_top;             /* where the return address of its call stands; 0 outside */
 
 static void read_registers(struct registers *registers, const mcontext_t *context)
 {
-    for (int i = 0; i < 16; i++) {
-        const uint32_t *xmm = context->fpregs->_xmm[i].element;
-
+    for (int i = 0; i < 16; i++)
         registers->half[i][0] = (uint64_t)context->gregs[places[i]];
-        if (places[i] == REG_EFL)
-            registers->half[i][0] &= ARITHMETIC_FLAGS;
-        registers->half[16 + i][0] = xmm[0] | (uint64_t)xmm[1] << 32;
-        registers->half[16 + i][1] = xmm[2] | (uint64_t)xmm[3] << 32;
-    }
+    registers->half[FLAGS][0] &= ARITHMETIC_FLAGS;
+    memcpy(registers->half[XMM], context->fpregs->_xmm, sizeof context->fpregs->_xmm);
+}
+
+static void swap(void)
+{
+    struct registers *old = before;
+
+    before = after;
+    after = old;
 }
 
 static bool in_host(uint64_t place)
@@ -81,18 +87,41 @@ static void run_on(mcontext_t *context)
     address = 0;
 }
 
-static void on_step(int number, siginfo_t *info, void *context)
+static uint32_t next_number(void)
+{
+    uint32_t number = inner_top == 0 ? outer++ : STEP_INNER + entered % STEP_PLACES * STEP_ROW + inner++;
+
+    if (outer > STEP_INNER || inner > STEP_ROW)
+        abort();
+    return number;
+}
+
+static void enter_thinned(mcontext_t *context)
+{
+    entered++;
+    if (draw_full_speed()) {
+        run_on(context);
+    } else {
+        inner_top = (uint64_t)context->gregs[REG_RSP];
+        inner = 0;
+    }
+}
+
+/* The emulator does not align the handler's stack as a function's; the attribute does. */
+__attribute__((force_align_arg_pointer)) static void on_step(int number, siginfo_t *info, void *context)
 {
     mcontext_t *machine = &((ucontext_t *)context)->uc_mcontext;
 
     (void)number, (void)info;
-    read_registers(&after, machine);
+    read_registers(after, machine);
     if (address != 0 && !in_host(address))
-        observe(address, &before, &after);
-    before = after;
+        observe(next_number(), address, before, after);
+    swap();
     address = (uint64_t)machine->gregs[REG_RIP];
-    if (address == thinned && draw_full_speed())
-        run_on(machine);
+    if ((uint64_t)machine->gregs[REG_RSP] > inner_top)
+        inner_top = 0;
+    if (address == thinned)
+        enter_thinned(machine);
 }
 
 /* The handler has its own stack, so that the call's stack holds nothing of it. */
@@ -117,5 +146,7 @@ void step_thin(uint64_t function, unsigned every, uint64_t seed)
 uint32_t step_make(const struct stepped_call *call)
 {
     address = 0;
+    outer = inner = entered = 0;
+    inner_top = 0;
     return step_enter(call);
 }

@@ -5,17 +5,19 @@
 #include <stdlib.h>
 #include <string.h>
 
-enum { PLACES = 1 << 14, TOUCHES = 1 << 24 };
+enum { PLACES = 1 << 18, TOUCHES = 1 << 23 };
 
-static struct instruction instructions[PLACES];
-static size_t instruction_count;
-static uint32_t places[PLACES]; /* a hash table of instruction numbers, plus 1 */
+static struct step steps[PLACES / 2];
+static size_t step_count;
+static uint32_t places[PLACES];           /* a hash table of indices of steps, plus 1 */
+static uint64_t addresses[STEP_NUMBERS];  /* the first address that a step had */
+static bool one_way;
 static unsigned long pair;
 static int sign;
 
 /* The classes that the pair has touched, so that its end need not look at all of them. */
 static struct touch {
-    struct watched *watched;
+    struct histogram *histogram;
     uint32_t class;
 } touches[TOUCHES];
 static size_t touch_count;
@@ -31,14 +33,26 @@ static void *allocate(size_t size)
     return memory;
 }
 
+static void forget(struct watched *watched)
+{
+    if (watched == NULL)
+        return;
+    for (int kind = 0; kind < KINDS; kind++)
+        for (int i = 0; i < HISTOGRAM_COUNT; i++)
+            free(watched->samples[kind].histograms[i]);
+    free(watched);
+}
+
 void watch_reset(void)
 {
-    for (size_t i = 0; i < instruction_count; i++)
+    for (size_t i = 0; i < step_count; i++)
         for (size_t j = 0; j < REGISTER_COUNT; j++)
-            free(instructions[i].registers[j]);
-    memset(instructions, 0, sizeof instructions);
+            forget(steps[i].registers[j]);
+    memset(steps, 0, step_count * sizeof *steps);
     memset(places, 0, sizeof places);
-    instruction_count = touch_count = 0;
+    memset(addresses, 0, sizeof addresses);
+    step_count = touch_count = 0;
+    one_way = true;
     pair = 0;
 }
 
@@ -47,116 +61,164 @@ void watch_secret(int which)
     sign = which == 0 ? 1 : -1;
 }
 
-static struct instruction *find(uint64_t address)
+static struct step *find(uint32_t number, uint64_t address)
 {
-    size_t place = address * UINT64_C(0x9e3779b97f4a7c15) >> 50;
+    size_t place = (address + number * UINT64_C(0x10001)) * UINT64_C(0x9e3779b97f4a7c15) >> 46;
 
-    while (places[place] != 0 && instructions[places[place] - 1].address != address)
+    while (places[place] != 0 && (steps[places[place] - 1].number != number || steps[places[place] - 1].address != address))
         place = (place + 1) % PLACES;
     if (places[place] == 0) {
-        if (instruction_count == PLACES / 2)
+        if (step_count == PLACES / 2)
             abort();
-        instructions[instruction_count].address = address;
-        places[place] = (uint32_t)++instruction_count;
+        steps[step_count].number = number;
+        steps[step_count].address = address;
+        places[place] = (uint32_t)++step_count;
+        one_way = one_way && addresses[number] == 0;
+        addresses[number] = address;
     }
-    return &instructions[places[place] - 1];
+    return &steps[places[place] - 1];
 }
 
-static void add(struct watched *watched, int class, int amount)
+static void add(struct histogram *histogram, uint32_t class)
 {
-    if (watched->difference[class] == 0) {
-        if (touch_count == TOUCHES)
-            abort();
-        touches[touch_count++] = (struct touch){watched, (uint32_t)class};
-    }
-    watched->difference[class] += sign * amount;
+    if (touch_count == TOUCHES)
+        abort();
+    touches[touch_count++] = (struct touch){histogram, class};
+    histogram->difference[class] = (int16_t)(histogram->difference[class] + sign);
 }
 
-static void count(struct watched *watched, const uint64_t half[2], int bytes)
+/* The histogram, if it counts already; one that is to be begins with the next pair. */
+static struct histogram *counting(struct sample *sample, int which, bool wanted)
 {
-    int weight = __builtin_popcountll(half[0]) + __builtin_popcountll(half[1]);
+    if (sample->histograms[which] == NULL && wanted) {
+        sample->histograms[which] = allocate(sizeof **sample->histograms);
+        sample->histograms[which]->from = pair + 1;
+    }
+    return sample->histograms[which] != NULL && pair >= sample->histograms[which]->from ? sample->histograms[which] : NULL;
+}
+
+static void count(struct sample *sample, const uint64_t half[2], int bytes)
+{
+    int weight = __builtin_popcountll(half[0]) + __builtin_popcountll(half[1]), varying = 0;
+    struct histogram *histogram;
     uint8_t fold = 0;
 
+    if (!sample->seen)
+        memcpy(sample->first, half, sizeof sample->first);
+    sample->seen = true;
+    if (sample->histograms[WEIGHT] == NULL && memcmp(sample->first, half, sizeof sample->first) == 0)
+        return;
     for (int i = 0; i < bytes; i++) {
-        uint8_t byte = (uint8_t)(half[i / 8] >> i % 8 * 8);
+        uint8_t byte = (uint8_t)(half[i / 8] >> i % 8 * 8), first = (uint8_t)(sample->first[i / 8] >> i % 8 * 8);
 
+        if ((histogram = counting(sample, i, byte != first)) != NULL)
+            add(histogram, byte);
+        varying += sample->histograms[i] != NULL;
         fold ^= byte;
-        add(watched, BYTES + 256 * i + byte, 1);
     }
-    add(watched, FOLD + fold, 1);
-    add(watched, WEIGHT + weight, 1);
-    add(watched, WEIGHT_SUM, weight);
-}
-
-void watch_observe(uint64_t address, const struct registers *before, const struct registers *after)
-{
-    struct instruction *instruction = find(address);
-
-    for (int i = 0; i < REGISTER_COUNT; i++) {
-        struct watched *watched = instruction->registers[i];
-
-        if (watched != NULL && pair >= watched->from) {
-            count(watched, after->half[i], i < 16 ? 8 : 16);
-        } else if (watched == NULL && memcmp(before->half[i], after->half[i], sizeof after->half[i]) != 0) {
-            instruction->registers[i] = allocate(sizeof *watched);
-            instruction->registers[i]->from = pair + 1;
-        }
+    if ((histogram = counting(sample, FOLD, varying > 1)) != NULL)
+        add(histogram, fold);
+    if ((histogram = counting(sample, WEIGHT, varying > 0)) != NULL) {
+        add(histogram, (uint32_t)weight);
+        histogram->total_difference += sign * weight;
     }
 }
 
-/* The sum of the weights is no histogram. A class may have been touched twice; the second time its
- * difference is 0. */
-static void end_class(struct watched *watched, uint32_t class)
+static void observe(struct step *step, int place, const struct registers *before, const struct registers *after)
 {
-    int64_t difference = watched->difference[class];
+    const uint64_t *old = before->half[place], *new = after->half[place], change[2] = {old[0] ^ new[0], old[1] ^ new[1]};
+    struct watched *watched = step->registers[place];
+    int bytes = place < XMM ? 8 : 16;
 
-    if (class != WEIGHT_SUM)
-        watched->growth[class / 256] += difference * watched->sum[class];
-    watched->sum[class] += difference;
-    watched->squares[class] += (uint64_t)(difference * difference);
-    watched->difference[class] = 0;
+    if (watched != NULL && pair >= watched->from) {
+        count(&watched->samples[VALUE], new, bytes);
+        count(&watched->samples[TRANSITION], change, bytes);
+    } else if (watched == NULL && (change[0] | change[1]) != 0) {
+        step->registers[place] = allocate(sizeof *watched);
+        step->registers[place]->from = pair + 1;
+        step->vectors = step->vectors || place >= XMM;
+    }
 }
 
-static void end_histogram(struct watched *watched, uint32_t histogram)
+/* Most steps leave the xmm registers alone, which are looked at only where one is watched or changes. */
+void watch_observe(uint32_t number, uint64_t address, const struct registers *before, const struct registers *after)
 {
-    double growth = (double)watched->growth[histogram];
+    struct step *step = find(number, address);
+    bool vectors = step->vectors || memcmp(before->half[XMM], after->half[XMM], sizeof before->half / 2) != 0;
 
-    watched->growth_sum[histogram] += growth;
-    watched->growth_squares[histogram] += growth * growth;
-    watched->growth[histogram] = 0;
+    for (int place = 0; place < (vectors ? REGISTER_COUNT : XMM); place++)
+        observe(step, place, before, after);
+}
+
+/* A class may have been touched before in this pair; then its difference is 0 by now. */
+static void end_class(struct histogram *histogram, uint32_t class)
+{
+    int64_t difference = histogram->difference[class];
+
+    histogram->growth += difference * histogram->sum[class];
+    histogram->sum[class] += (int32_t)difference;
+    histogram->squares[class] += (uint32_t)(difference * difference);
+    histogram->difference[class] = 0;
+}
+
+/* The same for a histogram: what it has grown by is 0 the second time. */
+static void end_histogram(struct histogram *histogram)
+{
+    double growth = (double)histogram->growth;
+
+    histogram->growth_sum += growth;
+    histogram->growth_squares += growth * growth;
+    histogram->growth = 0;
+    histogram->total_sum += histogram->total_difference;
+    histogram->total_squares += (uint64_t)(histogram->total_difference * histogram->total_difference);
+    histogram->total_difference = 0;
 }
 
 void watch_end_pair(void)
 {
     for (size_t i = 0; i < touch_count; i++)
-        end_class(touches[i].watched, touches[i].class);
+        end_class(touches[i].histogram, touches[i].class);
     for (size_t i = 0; i < touch_count; i++)
-        end_histogram(touches[i].watched, touches[i].class / 256);
+        end_histogram(touches[i].histogram);
     touch_count = 0;
     pair++;
 }
 
 static int compare(const void *one, const void *other)
 {
-    uint64_t left = ((const struct instruction *)one)->address, right = ((const struct instruction *)other)->address;
+    const struct step *left = one, *right = other;
 
-    return (left > right) - (left < right);
+    if (left->address != right->address)
+        return left->address > right->address ? 1 : -1;
+    return (left->number > right->number) - (left->number < right->number);
 }
 
 /* The hash table is out of order after this, so only watch_reset may follow. */
-struct instruction *watch_instructions(size_t *number)
+const struct step *watch_steps(size_t *number)
 {
-    qsort(instructions, instruction_count, sizeof *instructions, compare);
-    *number = instruction_count;
-    return instructions;
+    qsort(steps, step_count, sizeof *steps, compare);
+    *number = step_count;
+    return steps;
+}
+
+bool watch_one_way(void)
+{
+    return one_way;
 }
 
 /* The square of a sum is as great as that only if all that is summed is equal. */
-bool watch_unmasked(const struct watched *watched)
+bool watch_unmasked(const struct sample *sample)
 {
-    for (int i = 0; i < CLASS_COUNT; i++)
-        if ((uint64_t)(watched->sum[i] * watched->sum[i]) != watched->squares[i] * (pair - watched->from))
-            return false;
+    for (int i = 0; i < HISTOGRAM_COUNT; i++) {
+        const struct histogram *histogram = sample->histograms[i];
+
+        for (int class = 0; histogram != NULL && class < CLASS_COUNT; class++) {
+            int64_t sum = histogram->sum[class];
+
+            if ((uint64_t)(sum * sum) != histogram->squares[class] * (uint64_t)(pair - histogram->from))
+                return false;
+        }
+    }
     return true;
 }
 
@@ -170,27 +232,35 @@ static void take(struct figure *figure, double found, const char *of)
 }
 
 /* The second figure of watch.h, with v = 100: about what V is after a hundred pairs. */
-static double growth_figure(const struct watched *watched, int histogram)
+static double growth_figure(const struct histogram *histogram)
 {
     const double v = 100;
-    double sum = fmax(watched->growth_sum[histogram], 0), squares = watched->growth_squares[histogram] + v;
+    double sum = fmax(histogram->growth_sum, 0), squares = histogram->growth_squares + v;
 
     return sqrt(fmax(sum * sum / squares - log(squares / v), 0));
 }
 
-struct figure watch_figure(const struct watched *watched)
+static void take_histogram(struct figure *figure, const struct histogram *histogram, const char *of)
+{
+    bool compared = false;
+
+    for (int class = 0; class < CLASS_COUNT; class++)
+        if (histogram->squares[class] != 0) {
+            compared = true;
+            take(figure, fabs((double)histogram->sum[class]) / sqrt((double)histogram->squares[class]), of);
+        }
+    if (compared)
+        take(figure, growth_figure(histogram), "a histogram");
+    if (histogram->total_squares != 0)
+        take(figure, fabs((double)histogram->total_sum) / sqrt((double)histogram->total_squares), "sum of weights");
+}
+
+struct figure watch_figure(const struct sample *sample)
 {
     struct figure figure = {0, "", 0};
-    bool compared[HISTOGRAM_COUNT] = {false};
 
-    for (int i = 0; i < CLASS_COUNT; i++)
-        if (watched->squares[i] != 0) {
-            compared[i / 256] = true;
-            take(&figure, fabs((double)watched->sum[i]) / sqrt((double)watched->squares[i]),
-                 i < FOLD ? "a byte" : i < WEIGHT ? "bytes added" : i < WEIGHT_SUM ? "a weight" : "sum of weights");
-        }
     for (int i = 0; i < HISTOGRAM_COUNT; i++)
-        if (compared[i])
-            take(&figure, growth_figure(watched, i), "a histogram");
+        if (sample->histograms[i] != NULL)
+            take_histogram(&figure, sample->histograms[i], i < FOLD ? "a byte" : i == FOLD ? "bytes added" : "a weight");
     return figure;
 }

@@ -1,13 +1,18 @@
-/* What the registers held after each instruction, compared between two secrets.
+/* What the registers held after each step of a call, and what changed in them, compared between two
+ * secrets.
  *
- * Calls come in pairs, one with each secret, all masks independent. A register that an instruction
- * writes has its value sorted into classes; for each class, a pair gives a difference d: how often
- * the class came up with the first secret less how often with the second. If the register does not
- * depend on the secret, d is as likely as -d, whatever the distribution, and however samples within
- * one call hang together. The figure of a class is |sum of d| / sqrt(sum of d*d) over all pairs. By
- * Hoeffding's inequality for random signs it reaches x by chance with a probability of at most
- * 2 exp(-x*x / 2). This holds for any number of pairs and needs no table of a distribution. It also
- * holds when the sizes |d| are given, so a class whose d is always 0 is no comparison.
+ * A step is the n-th instruction of a call; an address that is reached twice is two steps. Looked at
+ * are the value that the step leaves in each register that it writes, and the transition: the value
+ * before it added to the value after it, the bits that flip.
+ *
+ * Calls come in pairs, one with each secret, all masks independent. Values and transitions are sorted
+ * into classes; for each class, a pair gives a difference d: how often the class came up with the
+ * first secret less how often with the second. If nothing depends on the secret, d is as likely as
+ * -d, whatever the distribution, and however samples within one call hang together. The figure of a
+ * class is |sum of d| / sqrt(sum of d*d) over all pairs. By Hoeffding's inequality for random signs
+ * it reaches x by chance with a probability of at most 2 exp(-x*x / 2). This holds for any number of
+ * pairs and needs no table of a distribution. It also holds when the sizes |d| are given, so a class
+ * whose d is always 0 is no comparison.
  *
  * That finds a class that comes up far more often with one secret. A small difference in many classes
  * shows in a second figure, over a whole histogram: m is the sum over its classes of d times the sum
@@ -24,25 +29,39 @@
 #include <stdbool.h>
 #include <stddef.h>
 
-/* The classes of a value: each of its bytes (8 in a general register, 16 in an xmm register, the
- * lowest first), all its bytes added, its Hamming weight, and, as one class that counts many, the sum
- * of the weights. */
-enum { BYTES = 0, FOLD = 16 * 256, WEIGHT = FOLD + 256, WEIGHT_SUM = WEIGHT + 129, CLASS_COUNT = WEIGHT_SUM + 1 };
+/* The histograms of a sample: each of its bytes (8 in a general register, 16 in an xmm register, the
+ * lowest first), all its bytes added, and its Hamming weight. A byte has one from the pair after the
+ * first one in which it varies; the bytes added, once two bytes vary. */
+enum { FOLD = 16, WEIGHT = 17, HISTOGRAM_COUNT = 18, CLASS_COUNT = 256 };
 
-/* One for each byte, one for the bytes added, one for the weight: the number of a class divided by 256. */
-enum { HISTOGRAM_COUNT = 18 };
-
-struct watched {
+struct histogram {
     unsigned long from; /* the first pair that counts */
-    int32_t difference[CLASS_COUNT];
-    int64_t sum[CLASS_COUNT];
-    uint64_t squares[CLASS_COUNT];
-    int64_t growth[HISTOGRAM_COUNT]; /* m of this pair */
-    double growth_sum[HISTOGRAM_COUNT], growth_squares[HISTOGRAM_COUNT];
+    int16_t difference[CLASS_COUNT];
+    int32_t sum[CLASS_COUNT];
+    uint32_t squares[CLASS_COUNT];
+    int64_t growth; /* m of this pair */
+    double growth_sum, growth_squares;
+    int64_t total_difference, total_sum; /* of the weights added up, as one class that counts many */
+    uint64_t total_squares;
 };
 
-/* A register is watched from the pair after the first one in which the instruction changes it. */
-struct instruction {
+struct sample {
+    bool seen;
+    uint64_t first[2];
+    struct histogram *histograms[HISTOGRAM_COUNT];
+};
+
+enum { VALUE, TRANSITION, KINDS };
+
+/* A register is watched from the pair after the first one in which the step changes it. */
+struct watched {
+    unsigned long from;
+    struct sample samples[KINDS];
+};
+
+struct step {
+    uint32_t number;
+    bool vectors; /* an xmm register is watched */
     uint64_t address;
     struct watched *registers[REGISTER_COUNT];
 };
@@ -57,18 +76,21 @@ step_observer watch_observe;
 
 void watch_end_pair(void);
 
-/* Sorts the instructions by address and gives them and their number. */
-struct instruction *watch_instructions(size_t *count);
+/* Sorts the steps by address and gives them and their number. */
+const struct step *watch_steps(size_t *count);
 
-/* True when every pair gave the same differences: no mask touches what the register holds. */
-bool watch_unmasked(const struct watched *watched);
+/* True while every step had one address. */
+bool watch_one_way(void);
 
-/* The greatest figure of a register, what has it, and how many comparisons were made for it. */
+/* True when every pair gave the same differences: no mask touches what was sampled. */
+bool watch_unmasked(const struct sample *sample);
+
+/* The greatest figure of a sample, what has it, and how many comparisons were made for it. */
 struct figure {
     double greatest;
     const char *of;
     unsigned compared;
 };
-struct figure watch_figure(const struct watched *watched);
+struct figure watch_figure(const struct sample *sample);
 
 #endif
