@@ -125,6 +125,7 @@ uint32_t calls_make(const struct library *library, const struct call *call, stru
         return library->expand(buffers->key, key_len, buffers->round_keys, calls_round_keys_len(key_len));
     default:
         return library->block(direction, buffers->data, sizeof buffers->data, buffers->mask, sizeof buffers->mask,
-                              buffers->round_keys, calls_round_keys_len(key_len), buffers->strip, calls_strip_len(key_len));
+                              buffers->round_keys, calls_round_keys_len(key_len), buffers->strip,
+                              calls_strip_len(key_len));
     }
 }

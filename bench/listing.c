@@ -64,8 +64,8 @@ static unsigned long make_pairs(const struct listing_case *listing, const uint8_
         }
         watch_end_pair();
         if (show_progress && pair % 20 == 0)
-            fprintf(stderr, "\r%-36s%02x against %02x: %lu of %lu pairs  \r", listing->name, secrets[0], secrets[1], pair,
-                    pairs);
+            fprintf(stderr, "\r%-36s%02x against %02x: %lu of %lu pairs  \r", listing->name, secrets[0], secrets[1],
+                    pair, pairs);
     }
     return refused;
 }
@@ -133,8 +133,9 @@ static int run_all(const struct amounts *amounts, const char *word)
     listing_prepare();
     step_prepare(watch_observe);
     show_progress = isatty(STDERR_FILENO);
-    printf("S-box: %lu pairs of calls for each of %u pairs of secrets, %lu with points; block: %lu pairs, one S-box in %u in "
-           "steps\n\n", amounts->sbox_pairs, amounts->sbox_secrets, amounts->points_pairs, amounts->block_pairs, amounts->every);
+    printf("S-box: %lu pairs of calls, %lu with points, for each of %u pairs of secrets\n", amounts->sbox_pairs,
+           amounts->points_pairs, amounts->sbox_secrets);
+    printf("block: %lu pairs of calls, one S-box in %u in steps\n\n", amounts->block_pairs, amounts->every);
     table_print_head();
     for (size_t i = 0; i < LISTING_CASES; i++)
         if (listing_cases[i].call->key_len <= amounts->longest_key

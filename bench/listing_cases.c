@@ -36,7 +36,8 @@ const struct listing_case listing_cases[LISTING_CASES] = {
     {"known bad: bare inversion", &known_bad_branch, &calls[0], IN_DATA, VALUES_FOUND, false, BAD_SECRETS},
     {"known bad: the archive unmasked", &archive, &calls[0], IN_DATA, VALUES_FOUND, true, BAD_SECRETS},
     {"known bad: mask over the byte", &listing_bad_over, &calls[0], IN_DATA, TRANSITIONS_FOUND, false, BAD_SECRETS},
-    {"known bad: one turn of a loop", &listing_bad_turn, &calls[7], IN_DATA, VALUES_FOUND, false, {{0x2b, 0x78}}, 1, 70},
+    {"known bad: one turn of a loop", &listing_bad_turn, &calls[7], IN_DATA, VALUES_FOUND, false, {{0x2b, 0x78}}, 1,
+     70},
 };
 
 bool listing_known_bad(const struct listing_case *listing)

@@ -65,7 +65,8 @@ static struct step *find(uint32_t number, uint64_t address)
 {
     size_t place = (address + number * UINT64_C(0x10001)) * UINT64_C(0x9e3779b97f4a7c15) >> 46;
 
-    while (places[place] != 0 && (steps[places[place] - 1].number != number || steps[places[place] - 1].address != address))
+    while (places[place] != 0
+           && (steps[places[place] - 1].number != number || steps[places[place] - 1].address != address))
         place = (place + 1) % PLACES;
     if (places[place] == 0) {
         if (step_count == PLACES / 2)
@@ -90,11 +91,13 @@ static void add(struct histogram *histogram, uint32_t class)
 /* The histogram, if it counts already; one that is to be begins with the next pair. */
 static struct histogram *counting(struct sample *sample, int which, bool wanted)
 {
-    if (sample->histograms[which] == NULL && wanted) {
-        sample->histograms[which] = allocate(sizeof **sample->histograms);
-        sample->histograms[which]->from = pair + 1;
+    struct histogram **place = &sample->histograms[which];
+
+    if (*place == NULL && wanted) {
+        *place = allocate(sizeof **place);
+        (*place)->from = pair + 1;
     }
-    return sample->histograms[which] != NULL && pair >= sample->histograms[which]->from ? sample->histograms[which] : NULL;
+    return *place != NULL && pair >= (*place)->from ? *place : NULL;
 }
 
 static void count(struct sample *sample, const uint64_t half[2], int bytes)
@@ -126,7 +129,8 @@ static void count(struct sample *sample, const uint64_t half[2], int bytes)
 
 static void observe(struct step *step, int place, const struct registers *before, const struct registers *after)
 {
-    const uint64_t *old = before->half[place], *new = after->half[place], change[2] = {old[0] ^ new[0], old[1] ^ new[1]};
+    const uint64_t *old = before->half[place], *new = after->half[place];
+    const uint64_t change[2] = {old[0] ^ new[0], old[1] ^ new[1]};
     struct watched *watched = step->registers[place];
     int bytes = place < XMM ? 8 : 16;
 
@@ -261,6 +265,7 @@ struct figure watch_figure(const struct sample *sample)
 
     for (int i = 0; i < HISTOGRAM_COUNT; i++)
         if (sample->histograms[i] != NULL)
-            take_histogram(&figure, sample->histograms[i], i < FOLD ? "a byte" : i == FOLD ? "bytes added" : "a weight");
+            take_histogram(&figure, sample->histograms[i],
+                           i < FOLD ? "a byte" : i == FOLD ? "bytes added" : "a weight");
     return figure;
 }
