@@ -15,7 +15,7 @@ fn wide_pair(x: u8) -> u32
 }
 
 // The one computation of the 62 points, left in cells 2, 4, .., 124. The mask comes in cell 0, so that no register carries it beside the masked byte. The answer is points
-// 54 and 62 joined. The products are taken in such an order that neither a register nor the flags go from a part to its mask; the running sums keep the order of document 01.
+// 54 and 62 joined. The products are taken in such an order that neither a register nor the flags go from a part to its mask; the running sums keep the order of rule 2.3.
 fn make_points(cells: &mut [u8; 126], masked: u8, record: Record) -> u8
     requires { ⌜ now cells ≡ withMask (getD (now cells) 0 0) ⌝ }
     ensures { λ v. ⌜ (v ≡ maskedInverse masked (getD (now (cells .entry)) 0 0) «record») × (length (now (cells .exit)) ≡ 126) × (pointsFrom 62 (drop 2 (now (cells .exit))) ≡ recordPoints masked (getD (now (cells .entry)) 0 0) «record») ⌝ }
