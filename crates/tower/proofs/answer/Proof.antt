@@ -4,12 +4,6 @@ use Rattle.refusal.proofs.First.{first-stop, first-on, first-done}
 use Rattle.tower.proofs.answer.Statement.{statement}
 use Rattle.tower.proofs.answer.Tie as tie
 
-enum-told : tie.Need-enum-told
-enum-told c = search needs
-
-enum-told-2 : tie.Need-enum-told-2
-enum-told-2 c = search needs
-
 returns : tie.Need-returns
 returns c = search first-stop
 
@@ -17,4 +11,5 @@ returns-2 : tie.Need-returns-2
 returns-2 c = search (first-on, first-done)
 
 pub answer-spec : {M : Type 1} → statement M
-answer-spec = tie.close (tie.spec enum-told enum-told-2 returns returns-2)
+answer-spec =
+    tie.close (tie.spec (λ c. search needs) (λ c. search needs) returns returns-2)

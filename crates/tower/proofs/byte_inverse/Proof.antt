@@ -7,30 +7,6 @@ use Rattle.tower.specs.Tower.{nibbleProduct, nibbleInverse, byteInverse}
 use Rattle.tower.proofs.byte_inverse.Statement.{statement}
 use Rattle.tower.proofs.byte_inverse.Tie as tie
 
-high-nibble-requires : tie.Need-high-nibble-requires
-high-nibble-requires c κs = search needs
-
-low-nibble-requires : tie.Need-low-nibble-requires
-low-nibble-requires c κs = search needs
-
-nibble-times-requires : tie.Need-nibble-times-requires
-nibble-times-requires c κs = search needs
-
-nibble-square-requires : tie.Need-nibble-square-requires
-nibble-square-requires c κs = search needs
-
-invert-nibble-requires : tie.Need-invert-nibble-requires
-invert-nibble-requires c κs = search needs
-
-nibble-times-requires-2 : tie.Need-nibble-times-requires-2
-nibble-times-requires-2 c κs = search needs
-
-nibble-times-requires-3 : tie.Need-nibble-times-requires-3
-nibble-times-requires-3 c κs = search needs
-
-join-nibbles-requires : tie.Need-join-nibbles-requires
-join-nibbles-requires c κs = search needs
-
 returns : tie.Need-returns
 unfolding byteInverse _⊕_
 returns c =
@@ -39,14 +15,5 @@ returns c =
 
 pub byte-inverse-spec : {M : Type 1} → statement M
 byte-inverse-spec =
-    tie.close
-    (tie.spec
-    high-nibble-requires
-    low-nibble-requires
-    nibble-times-requires
-    nibble-square-requires
-    invert-nibble-requires
-    nibble-times-requires-2
-    nibble-times-requires-3
-    join-nibbles-requires
-    returns)
+    tie.close (tie.spec (λ c κs. search needs) (λ c κs. search needs) (λ c κs. search needs) (λ c κs. search needs) (λ c κs. search needs)
+    (λ c κs. search needs) (λ c κs. search needs) (λ c κs. search needs) returns)

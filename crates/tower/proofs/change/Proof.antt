@@ -20,30 +20,6 @@ abbrev μ-loop : tie.MeasureT-loop
 loop-holds : tie.Need-loop-holds Inv-loop μ-loop
 loop-holds c = (omega arith, zero-l _)
 
-sub-bit : tie.Need-sub-bit Inv-loop μ-loop
-sub-bit c = search needs
-
-cast-bit : tie.Need-cast-bit Inv-loop μ-loop
-cast-bit c = search needs
-
-cast-bit-2 : tie.Need-cast-bit-2 Inv-loop μ-loop
-cast-bit-2 c = search needs
-
-shr-bit : tie.Need-shr-bit Inv-loop μ-loop
-shr-bit c = search needs
-
-element-copy-out-column-at : tie.Need-element-copy-out-column-at Inv-loop μ-loop
-element-copy-out-column-at c = search needs
-
-column-at-requires : tie.Need-column-at-requires Inv-loop μ-loop
-column-at-requires c κs = search needs
-
-add-i : tie.Need-add-i Inv-loop μ-loop
-add-i c = search needs
-
-loop-less : tie.Need-loop-less Inv-loop μ-loop
-loop-less c = search needs
-
 loop-again : tie.Need-loop-again Inv-loop μ-loop
 unfolding _⊕_
 loop-again c = (omega arith, change-next _ _ (c .before .before .before .loop .i) (c .before .before .before .loop .sum) _ (c .before .before .before .before .pre) (omega arith) (c .column-at .ensures) (c .before .before .before .loop .inv .1))
@@ -53,18 +29,5 @@ returns c = change-all _ _ (c .before .loop .i) _ (c .before .before .pre) (omeg
 
 pub change-spec : {M : Type 1} → statement M
 change-spec =
-    tie.close
-    (tie.spec
-    Inv-loop
-    μ-loop
-    loop-holds
-    sub-bit
-    cast-bit
-    cast-bit-2
-    shr-bit
-    element-copy-out-column-at
-    column-at-requires
-    add-i
-    loop-less
-    loop-again
-    returns)
+    tie.close (tie.spec Inv-loop μ-loop loop-holds (λ c. search needs) (λ c. search needs) (λ c. search needs) (λ c. search needs) (λ c. search needs)
+    (λ c κs. search needs) (λ c. search needs) (λ c. search needs) loop-again returns)

@@ -4,11 +4,9 @@ use Rattle.tower.proofs.Leaf.{column}
 use Rattle.tower.proofs.column_at.Statement.{statement}
 use Rattle.tower.proofs.column_at.Tie as tie
 
-mul-result : tie.Need-mul-result
-mul-result c = search needs
-
 returns : tie.Need-returns
 returns c = column (c .args .column) (c .args .bit) (search needs) (c .pre)
 
 pub column-at-spec : {M : Type 1} → statement M
-column-at-spec = tie.close (tie.spec mul-result returns)
+column-at-spec =
+    tie.close (tie.spec (λ c. search needs) returns)

@@ -4,12 +4,10 @@ use Rattle.tower.specs.Tower.{fromTower}
 use Rattle.tower.proofs.from_tower.Statement.{statement}
 use Rattle.tower.proofs.from_tower.Tie as tie
 
-change-requires : tie.Need-change-requires
-change-requires c κs = search needs
-
 returns : tie.Need-returns
 unfolding fromTower
 returns c = c .change .ensures
 
 pub from-tower-spec : {M : Type 1} → statement M
-from-tower-spec = tie.close (tie.spec change-requires returns)
+from-tower-spec =
+    tie.close (tie.spec (λ c κs. search needs) returns)

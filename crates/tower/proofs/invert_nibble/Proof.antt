@@ -7,30 +7,6 @@ use Rattle.tower.specs.Tower.{pairProduct, pairInverse, nibbleInverse}
 use Rattle.tower.proofs.invert_nibble.Statement.{statement}
 use Rattle.tower.proofs.invert_nibble.Tie as tie
 
-high-pair-requires : tie.Need-high-pair-requires
-high-pair-requires c κs = search needs
-
-low-pair-requires : tie.Need-low-pair-requires
-low-pair-requires c κs = search needs
-
-pair-times-requires : tie.Need-pair-times-requires
-pair-times-requires c κs = search needs
-
-pair-square-requires : tie.Need-pair-square-requires
-pair-square-requires c κs = search needs
-
-exchange-requires : tie.Need-exchange-requires
-exchange-requires c κs = search needs
-
-pair-times-requires-2 : tie.Need-pair-times-requires-2
-pair-times-requires-2 c κs = search needs
-
-pair-times-requires-3 : tie.Need-pair-times-requires-3
-pair-times-requires-3 c κs = search needs
-
-join-pairs-requires : tie.Need-join-pairs-requires
-join-pairs-requires c κs = search needs
-
 returns : tie.Need-returns
 unfolding nibbleInverse pairInverse _⊕_
 returns c =
@@ -39,14 +15,5 @@ returns c =
 
 pub invert-nibble-spec : {M : Type 1} → statement M
 invert-nibble-spec =
-    tie.close
-    (tie.spec
-    high-pair-requires
-    low-pair-requires
-    pair-times-requires
-    pair-square-requires
-    exchange-requires
-    pair-times-requires-2
-    pair-times-requires-3
-    join-pairs-requires
-    returns)
+    tie.close (tie.spec (λ c κs. search needs) (λ c κs. search needs) (λ c κs. search needs) (λ c κs. search needs) (λ c κs. search needs)
+    (λ c κs. search needs) (λ c κs. search needs) (λ c κs. search needs) returns)

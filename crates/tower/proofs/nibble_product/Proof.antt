@@ -4,18 +4,9 @@ use Rattle.tower.proofs.Leaf.{answered}
 use Rattle.tower.proofs.nibble_product.Statement.{statement}
 use Rattle.tower.proofs.nibble_product.Tie as tie
 
-check-both-requires : tie.Need-check-both-requires
-check-both-requires c κs = search needs
-
-nibble-times-requires : tie.Need-nibble-times-requires
-nibble-times-requires c κs = search needs
-
-answer-requires : tie.Need-answer-requires
-answer-requires c κs = search needs
-
 returns : tie.Need-returns
 returns c = answered _ _ _ _ _ (c .answer .ensures) (c .before .before .check-both .ensures) (c .before .nibble-times .ensures)
 
 pub nibble-product-spec : {M : Type 1} → statement M
 nibble-product-spec =
-    tie.close (tie.spec check-both-requires nibble-times-requires answer-requires returns)
+    tie.close (tie.spec (λ c κs. search needs) (λ c κs. search needs) (λ c κs. search needs) returns)

@@ -4,18 +4,9 @@ use Rattle.tower.proofs.Leaf.{answered}
 use Rattle.tower.proofs.pair_product.Statement.{statement}
 use Rattle.tower.proofs.pair_product.Tie as tie
 
-check-both-requires : tie.Need-check-both-requires
-check-both-requires c κs = search needs
-
-pair-times-requires : tie.Need-pair-times-requires
-pair-times-requires c κs = search needs
-
-answer-requires : tie.Need-answer-requires
-answer-requires c κs = search needs
-
 returns : tie.Need-returns
 returns c = answered _ _ _ _ _ (c .answer .ensures) (c .before .before .check-both .ensures) (c .before .pair-times .ensures)
 
 pub pair-product-spec : {M : Type 1} → statement M
 pair-product-spec =
-    tie.close (tie.spec check-both-requires pair-times-requires answer-requires returns)
+    tie.close (tie.spec (λ c κs. search needs) (λ c κs. search needs) (λ c κs. search needs) returns)

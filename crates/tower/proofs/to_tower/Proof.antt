@@ -4,12 +4,10 @@ use Rattle.tower.specs.Tower.{toTower}
 use Rattle.tower.proofs.to_tower.Statement.{statement}
 use Rattle.tower.proofs.to_tower.Tie as tie
 
-change-requires : tie.Need-change-requires
-change-requires c κs = search needs
-
 returns : tie.Need-returns
 unfolding toTower
 returns c = c .change .ensures
 
 pub to-tower-spec : {M : Type 1} → statement M
-to-tower-spec = tie.close (tie.spec change-requires returns)
+to-tower-spec =
+    tie.close (tie.spec (λ c κs. search needs) returns)

@@ -4,11 +4,9 @@ use Rattle.tower.proofs.Leaf.{pair-square-made}
 use Rattle.tower.proofs.low.pair_square.Statement.{statement}
 use Rattle.tower.proofs.low.pair_square.Tie as tie
 
-mul-result : tie.Need-mul-result
-mul-result c = search needs
-
 returns : tie.Need-returns
 returns c = pair-square-made (c .args .x) (search needs)
 
 pub pair-square-spec : {M : Type 1} → statement M
-pair-square-spec = tie.close (tie.spec mul-result returns)
+pair-square-spec =
+    tie.close (tie.spec (λ c. search needs) returns)
