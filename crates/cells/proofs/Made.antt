@@ -11,7 +11,8 @@ use Rattle.fips197.specs.Field.{_⊕_}
 use Rattle.fips197.proofs.Lists.{elements, eta}
 use Rattle.fips197.proofs.Xor.{lt}
 use Rattle.refusal.specs.Answer.{Answer, done}
-use Rattle.tower.specs.Tower.{hi, lo, join, scaledSquare, exchange, pairProduct, nibbleProduct}
+use Rattle.tower.specs.Tower.{hi, lo, join, scaledSquare, exchange, pairProduct, pairInverse, nibbleProduct, nibbleInverse}
+use Rattle.tower.specs.Claims.{FieldLaws}
 use Rattle.tower.specs.Low.{entry, row, pairRow}
 use Rattle.points.specs.Points.{masked, fourteen, eight, points, recordPoints, maskedInverse}
 use Rattle.cells.specs.Cells.{pointsFrom, cellsOfPoints, recorded}
@@ -131,13 +132,11 @@ fourteenWith p7 times nu a1 a0 m1 m0 q =
     let p14 = p13 ⊕ p8 in
     p1 ∷ p2 ∷ p3 ∷ p4 ∷ p5 ∷ p6 ∷ p7 ∷ p8 ∷ p9 ∷ p10 ∷ p11 ∷ p12 ∷ p13 ∷ p14 ∷ []
 
-seventh-nibble : (nu a1 a0 m1 m0 q : ℕ) → fourteenWith (nibbleProduct m1 a0) nibbleProduct nu a1 a0 m1 m0 q ≡ fourteen nibbleProduct nu a1 a0 m1 m0 q
+-- which is the rule's, its operands changed over: one law for nibbles and pairs
+seventh : (k : ℕ) (times : ℕ → ℕ → ℕ) (unit : ℕ) (inv : ℕ → ℕ) → FieldLaws k times unit inv → (nu a1 a0 m1 m0 q : ℕ)
+    → fourteenWith (times m1 a0) times nu a1 a0 m1 m0 q ≡ fourteen times nu a1 a0 m1 m0 q
 unfolding fourteenWith fourteen
-seventh-nibble nu a1 a0 m1 m0 q = ap {B = List ℕ} (λ (p : ℕ). fourteenWith p nibbleProduct nu a1 a0 m1 m0 q) (nibbleLaws .commutative m1 a0)
-
-seventh-pair : (nu a1 a0 m1 m0 q : ℕ) → fourteenWith (pairProduct m1 a0) pairProduct nu a1 a0 m1 m0 q ≡ fourteen pairProduct nu a1 a0 m1 m0 q
-unfolding fourteenWith fourteen
-seventh-pair nu a1 a0 m1 m0 q = ap {B = List ℕ} (λ (p : ℕ). fourteenWith p pairProduct nu a1 a0 m1 m0 q) (pairLaws .commutative m1 a0)
+seventh k times unit inv L nu a1 a0 m1 m0 q = ap {B = List ℕ} (λ (p : ℕ). fourteenWith p times nu a1 a0 m1 m0 q) (L .commutative m1 a0)
 
 -- the eight, the operands of each product changed over
 unfoldable eightOver : (ℕ → ℕ → ℕ) → ℕ → ℕ → ℕ → ℕ → ℕ → List ℕ
@@ -189,7 +188,7 @@ module _ (a m : ℕ) (ρ : Record) where
 
   in-order : pointsMade a m ρ ≡ recordPoints a m ρ
   unfolding pointsMade recordPoints points
-  in-order = simp (seventh-nibble, seventh-pair, over-nibble, over-pair, lo-third, lo-fourth)
+  in-order = simp (seventh 4 nibbleProduct 0xf nibbleInverse nibbleLaws, seventh 2 pairProduct 3 pairInverse pairLaws, over-nibble, over-pair, lo-third, lo-fourth)
 
   lo-53 : lo 4 (P 53) ≡ P 53
   unfolding masked
