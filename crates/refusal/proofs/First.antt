@@ -83,6 +83,10 @@ pub neither : (a b : Bool) → (a || b) ≡ false → (a ≡ false) × (b ≡ fa
 neither true b e = clash cc
 neither false b e = (refl, e)
 
+pub both-true : (a b : Bool) → (a && b) ≡ true → (a ≡ true) × (b ≡ true)
+both-true true b e = (refl, e)
+both-true false b e = clash cc
+
 -- An answer passed on from a call below with the same checks. `tell` is what it says: the call's own refusal, or done.
 module _ {X A : Type 0} (deny : Refusal → X) (tell : X → Answer A) (tells : (r : Refusal) → tell (deny r) ≡ refused r) where
   pub refusal-passed : (checks : List (ℕ × Bool)) (give give′ x : X) (r : Refusal) (p : A) → tell x ≡ refused r → tell give ≡ done p

@@ -12,10 +12,9 @@ use Rattle.refusal.specs.declared.Refusal.{Refusal}
 use Rattle.refusal.specs.declared.Check.the-variants.{Passed}
 use Rattle.refusal.specs.declared.Outcome.{Outcome}
 use Rattle.refusal.specs.declared.Outcome.the-variants.{Done, Refused}
-use Rattle.refusal.proofs.First.{clash, passes-first, call-passes, found, front-failed, front-passed}
+use Rattle.refusal.proofs.First.{clash, neither, both-true, passes-first, call-passes, found, front-failed, front-passed}
 use Rattle.strip.specs.Strip.{version, keySize, recordBytes, sameForm, badFraming, spent, unknownVersion, wrongRecordBytes, badThird, badRecord, checkList, blockChecks, ownChecks, wholeRecord, recordPart}
-use Rattle.strip.specs.Inner.{frontOf, restOf}
-use Rattle.strip.proofs.Laws.{either-false, third-at}
+use Rattle.strip.proofs.Laws.{third-at}
 
 pub record Fit (s : List ℕ) (size : ℕ) : Type 0 where
   pub long : 4 ≤ length s
@@ -24,14 +23,6 @@ pub record Fit (s : List ℕ) (size : ℕ) : Type 0 where
   pub bytes : recordBytes s ≡ 12 * size + 288
   pub there : (i : ℕ) → 4 + 3 * i + 3 ≤ length s → recordPart s i ≡ take 3 (drop (4 + 3 * i) s)
   pub small : (i : ℕ) → 4 + 3 * i + 3 ≤ length s → getD s (4 + 3 * i + 2) 0 ≤ 3
-
-both-true : (a b : Bool) → (a && b) ≡ true → (a ≡ true) × (b ≡ true)
-both-true true b e = (refl, e)
-both-true false b e = clash cc
-
-either-right : (a b : Bool) → (a || b) ≡ false → b ≡ false
-either-right true b e = clash cc
-either-right false b e = e
 
 -- one of three, where not none
 one-of : (a b c : Bool) {P : Type 0} → not (a || (b || (c || false))) ≡ false → (a ≡ true → P) → (b ≡ true → P) → (c ≡ true → P) → P
@@ -50,7 +41,7 @@ bytes-of v k n key bytes e h =
 module _ (s : List ℕ) where
   pub unspoilt : badFraming s ≡ false → 4 ≤ length s
   unfolding badFraming
-  unspoilt e = ltb-false (length s) 4 (either-false _ _ e)
+  unspoilt e = ltb-false (length s) 4 (neither _ _ e .0)
 
   right-bytes : wrongRecordBytes s ≡ false → recordBytes s ≡ 12 * keySize s + 288
   unfolding wrongRecordBytes
@@ -70,10 +61,10 @@ module _ (s : List ℕ) where
   still e zero h = e
   still e (suc i) h =
       let n : 4 + 3 * suc i ≡ 4 + 3 * i + 3 = omega arith in
-      rw n (either-right (above 3 (getD s (4 + 3 * i + 2) 0)) _ (sym (third-at s i (omega arith)) ∙ still e i (omega arith)))
+      rw n (neither (above 3 (getD s (4 + 3 * i + 2) 0)) _ (sym (third-at s i (omega arith)) ∙ still e i (omega arith)) .1)
 
   thirds : badRecord s ≡ false → (i : ℕ) → 4 + 3 * i + 3 ≤ length s → getD s (4 + 3 * i + 2) 0 ≤ 3
-  thirds e i h = ltb-false 3 (getD s (4 + 3 * i + 2) 0) (either-false (above 3 (getD s (4 + 3 * i + 2) 0)) _ (sym (third-at s i h) ∙ still e i (omega arith)))
+  thirds e i h = ltb-false 3 (getD s (4 + 3 * i + 2) 0) (neither (above 3 (getD s (4 + 3 * i + 2) 0)) _ (sym (third-at s i h) ∙ still e i (omega arith)) .0)
 
 -- past the last record there is none, whatever the checks say
 either-way : (checks : List (ℕ × Bool)) (l : List ℕ) → first checks (λ _. l) l ≡ l
@@ -85,26 +76,6 @@ either-way ((n, false) ∷ checks) l = either-way checks l
 pub past : (s : List ℕ) (i : ℕ) → length s < 4 + 3 * i + 3 → recordPart s i ≡ []
 unfolding wholeRecord
 past s i h = rw (lt-ltb (length s) (4 + 3 * i + 3) h) (either-way ((7, badFraming s) ∷ (8, unknownVersion s) ∷ (11, spent s) ∷ []) [])
-
--- the check in its two parts: what the first found decides, or the rest goes on from four bytes that are there
-module _ (s : List ℕ) (f : Outcome) (e : outcome f ≡ frontOf s) where
-  front : List (ℕ × Bool)
-  front = (7, badFraming s) ∷ (11, spent s) ∷ (8, unknownVersion s) ∷ []
-
-  pub front-long : f ≡ Done → 4 ≤ length s
-  unfolding front
-  front-long g = unspoilt s (passes-first 7 (badFraming s) _ (call-passes front f e g) .0)
-
-  rest : Bool → List (ℕ × Bool)
-  rest sized = (9, sized) ∷ (12, wrongRecordBytes s) ∷ (10, badRecord s) ∷ []
-
-  pub stopped : (sized : Bool) (r : Refusal) → f ≡ Refused r → outcome f ≡ first (checkList s sized) refused (done tt)
-  unfolding front rest
-  stopped sized r g = ap outcome g ∙ front-failed (rest sized) refused (done tt) (outcome f) tt front r e (ap outcome g)
-
-  pub onward : (sized t : Bool) (x : Answer (Unit {0})) → f ≡ Done → t ≡ sized → x ≡ restOf s t → x ≡ first (checkList s sized) refused (done tt)
-  unfolding front rest
-  onward sized t x g h i = front-passed (rest sized) refused (done tt) (outcome f) tt front x tt e (ap outcome g) (i ∙ ap (restOf s) h)
 
 -- what no refusal of the list leaves
 record Unrefused (s : List ℕ) (sized : Bool) : Type 0 where

@@ -13,12 +13,9 @@ use borrow.Rule.Slice.PartMut.{same-len-mid}
 use Rattle.refusal.specs.declared.Check.{Check}
 use Rattle.refusal.specs.declared.Check.the-variants.{Passed}
 use Rattle.refusal.specs.Refusal.{failed}
-use Rattle.refusal.specs.Answer.{above, isNot}
-use Rattle.strip.specs.Strip.{lengthField, version, keySize, recordBytes, badFraming, spent, unknownVersion, wrongRecordBytes, badThird, badRecord, wholeRecord, wiped}
-
-pub either-false : (a b : Bool) → (a || b) ≡ false → a ≡ false
-either-false true b e = e
-either-false false b e = refl
+use Rattle.refusal.specs.Answer.{Answer, done, refused, first, above, isNot, noneOf}
+use Rattle.refusal.proofs.First.{neither}
+use Rattle.strip.specs.Strip.{lengthField, version, keySize, recordBytes, badFraming, spent, unknownVersion, wrongRecordBytes, badThird, badRecord, checkList, formOf, ownFormOf, wholeRecord, wiped}
 
 either-no : (a : Bool) → (a || false) ≡ a
 either-no true = refl
@@ -36,7 +33,7 @@ module _ (s : List ℕ) where
 
   pub framed : (k : Check) → failed k ≡ badFraming s → k ≡ Passed → 4 ≤ length s
   unfolding badFraming
-  framed k e p = ltb-false (length s) 4 (either-false _ _ (sym e ∙ ap failed p))
+  framed k e p = ltb-false (length s) 4 (neither _ _ (sym e ∙ ap failed p) .0)
 
   pub is-spent : version s ≡ 0 → true ≡ spent s
   unfolding spent
@@ -120,6 +117,14 @@ module _ (s : List ℕ) (i : ℕ) where
   pub record-there : i < (length s - 4) / 3 → take (4 + 3 * i + 3 - (4 + 3 * i)) (drop (4 + 3 * i) s) ≡ wholeRecord s i
   unfolding wholeRecord
   record-there h = rw (le-ltb (length s) (4 + 3 * i + 3) (omega arith), add-sub-cancel-left) refl
+
+-- the checks in their order, for the key sizes that a call takes
+module _ (s : List ℕ) (k : ℕ) (e : k ≡ keySize s) (x : Answer (Unit {0})) (t : Bool) (h : x ≡ first (checkList s t) refused (done tt)) where
+  pub for-block : (size : ℕ) → t ≡ isNot size k → x ≡ formOf s size
+  for-block size g = h ∙ rw (g, e) refl
+
+  pub for-none-yet : t ≡ noneOf (16 ∷ 24 ∷ 32 ∷ []) k → x ≡ ownFormOf s
+  for-none-yet g = h ∙ rw (g, e) refl
 
 -- the wipe
 pub zeroed : (l m : List ℕ) (i : ℕ) → m ≡ replicate i 0 ++ drop i l → length l ≡ i → m ≡ replicate (length l) 0

@@ -3,10 +3,8 @@ ghost use mathlib.Core.Path.{_≡_};
 ghost use Prim.Native.Nat.{_≤_};
 ghost use lib.ListN.{length, replicate};
 ghost use Rattle.refusal.specs.Refusal.{failed};
-ghost use Rattle.refusal.specs.Answer.{isNot, noneOf, outcome};
-ghost use mathlib.Core.List.{[], _∷_};
-ghost use Rattle.strip.specs.Strip.{keySize, badFraming, spent, unknownVersion, wrongRecordBytes, badRecord, formOf, ownFormOf, recordPart, wiped};
-ghost use Rattle.strip.specs.Inner.{frontOf, restOf};
+ghost use Rattle.refusal.specs.Answer.{done, refused, first, outcome};
+ghost use Rattle.strip.specs.Strip.{keySize, badFraming, spent, unknownVersion, wrongRecordBytes, badRecord, checkList, formOf, ownFormOf, recordPart, wiped};
 use refusal::Check;
 use refusal::Outcome;
 use refusal::Refusal;
@@ -49,20 +47,14 @@ fn check_version(strip: &[u8]) -> Check
     Check::Failed
 }
 
-// 9: which key sizes there are is left to the forms, in the check of 12.
-fn check_key_size(strip: &[u8], key_size: u8) -> Check
-    requires { ⌜ 4 ≤ length (now strip) ⌝ }
-    ensures { λ c. ⌜ failed c ≡ isNot «key_size» (keySize (now (strip .entry))) ⌝ }
+// The key size that a strip names; what is too short to name one has key size 0.
+fn key_size_of(strip: &[u8]) -> usize
+    ensures { λ k. ⌜ k ≡ keySize (now (strip .entry)) ⌝ }
 {
-    refusal::check_length(strip[3] as usize, key_size as usize)
-}
-
-// 9, where no block says which.
-fn check_any_key_size(strip: &[u8]) -> Check
-    requires { ⌜ 4 ≤ length (now strip) ⌝ }
-    ensures { λ c. ⌜ failed c ≡ noneOf (16 ∷ 24 ∷ 32 ∷ []) (keySize (now (strip .entry))) ⌝ }
-{
-    refusal::check_lengths(strip[3] as usize, 16, 24, 32)
+    if strip.len() < 4 {
+        return 0;
+    }
+    strip[3] as usize
 }
 
 // 12: each form of a strip stands here once, with its number of record bytes; what is no form has no right number.
@@ -104,9 +96,9 @@ fn check_records(strip: &[u8]) -> Check
     Check::Passed
 }
 
-// The first three refusals: 7, 11, 8.
-fn check_front(strip: &[u8]) -> Outcome
-    ensures { λ r. ⌜ outcome r ≡ frontOf (now (strip .entry)) ⌝ }
+// A strip's own refusals in their order. Which key sizes are right is for the caller to say, so it brings the check for 9 along.
+fn check_all(strip: &[u8], sized: Check) -> Outcome
+    ensures { λ r. ⌜ outcome r ≡ first (checkList (now (strip .entry)) (failed sized)) refused (done tt) ⌝ }
 {
     let Check::Passed = check_framing(strip) else {
         return Outcome::Refused(Refusal::Strip(7));
@@ -117,14 +109,6 @@ fn check_front(strip: &[u8]) -> Outcome
     let Check::Passed = check_version(strip) else {
         return Outcome::Refused(Refusal::Strip(8));
     };
-    Outcome::Done
-}
-
-// The refusals of a strip whose framing and version are good: 9, 12, 10.
-fn check_rest(strip: &[u8], sized: Check) -> Outcome
-    requires { ⌜ 4 ≤ length (now strip) ⌝ }
-    ensures { λ r. ⌜ outcome r ≡ restOf (now (strip .entry)) (failed sized) ⌝ }
-{
     let Check::Passed = sized else {
         return Outcome::Refused(Refusal::Strip(9));
     };
@@ -137,26 +121,24 @@ fn check_rest(strip: &[u8], sized: Check) -> Outcome
     Outcome::Done
 }
 
-// A strip's own refusals for a block under round keys of this key size: 7, 11, 8, 9, 12, 10.
+// For a block under round keys of this key size: 9 where the strip's is another.
 pub fn check(strip: &[u8], key_size: u8) -> Outcome
     ensures { λ r. ⌜ outcome r ≡ formOf (now (strip .entry)) «key_size» ⌝ }
 {
-    let front = check_front(strip);
-    let Outcome::Done = front else {
-        return front;
-    };
-    check_rest(strip, check_key_size(strip, key_size))
+    check_all(
+        strip,
+        refusal::check_length(key_size_of(strip), key_size as usize),
+    )
 }
 
-// The same for no block yet, as a pool takes strips in: 9 where the key size is none of the three.
+// For no block yet, as a pool takes strips in: 9 where the key size is none of the three.
 pub fn check_own(strip: &[u8]) -> Outcome
     ensures { λ r. ⌜ outcome r ≡ ownFormOf (now (strip .entry)) ⌝ }
 {
-    let front = check_front(strip);
-    let Outcome::Done = front else {
-        return front;
-    };
-    check_rest(strip, check_any_key_size(strip))
+    check_all(
+        strip,
+        refusal::check_lengths(key_size_of(strip), 16, 24, 32),
+    )
 }
 
 // A record as a part of the caller's own strip; records count from 0.

@@ -1,38 +1,21 @@
--- `strip::check` meets its contract: from the first checks, the key size against that of the round keys, and the rest. Assumes nothing.
+-- `strip::check` meets its contract: from the key size held against that of the round keys, and the checks in their order. Assumes nothing.
 use borrow.Author.Needs.{needs}
-use Rattle.strip.proofs.Good.{front-long, stopped, onward}
+use Rattle.strip.proofs.Laws.{for-block}
 use Rattle.strip.proofs.check.Statement.{statement}
 use Rattle.strip.proofs.check.Tie as tie
 
-check-front-requires : tie.Need-check-front-requires
-check-front-requires c κs = search needs
+key-size-of-requires : tie.Need-key-size-of-requires
+key-size-of-requires c κs = search needs
 
-enum-told : tie.Need-enum-told
-enum-told c = search needs
+check-length-requires : tie.Need-check-length-requires
+check-length-requires c κs = search needs
 
-enum-told-2 : tie.Need-enum-told-2
-enum-told-2 c = search needs
+check-all-requires : tie.Need-check-all-requires
+check-all-requires c κs = search needs
 
 returns : tie.Need-returns
-returns c = stopped _ _ (c .before .before .check-front .ensures) _ _ (c .enum-told2 .given .1)
-
-check-key-size-requires : tie.Need-check-key-size-requires
-check-key-size-requires c κs = front-long _ _ (c .before .before .check-front .ensures) (c .enum-told .given .1)
-
-check-rest-requires : tie.Need-check-rest-requires
-check-rest-requires c κs = front-long _ _ (c .before .before .before .check-front .ensures) (c .before .enum-told .given .1)
-
-returns-2 : tie.Need-returns-2
-returns-2 c = onward _ _ (c .before .before .before .before .check-front .ensures) _ _ _ (c .before .before .enum-told .given .1) (c .before .check-key-size .ensures) (c .check-rest .ensures)
+returns c = for-block _ _ (c .before .before .key-size-of .ensures) _ _ (c .check-all .ensures) _ (c .before .check-length .ensures)
 
 pub check-spec : {M : Type 1} → statement M
 check-spec =
-    tie.close
-    (tie.spec
-    check-front-requires
-    enum-told
-    enum-told-2
-    returns
-    check-key-size-requires
-    check-rest-requires
-    returns-2)
+    tie.close (tie.spec key-size-of-requires check-length-requires check-all-requires returns)
