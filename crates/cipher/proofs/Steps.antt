@@ -9,7 +9,8 @@ use mathlib.Core.Bool.{Bool, true, false}
 use lib.Dec.{eqb}
 use Rattle.fips197.specs.Cipher.{shiftRows, mixColumns, addRoundKey, invShiftRows, invMixColumns}
 use Rattle.aes.specs.Steps as aes
-use Rattle.aes.proofs.Chosen.{on-state, key-there}
+use Rattle.aes.proofs.Chosen.{key-there}
+use Rattle.refusal.proofs.Part.{on-length as on-state}
 use Rattle.sbox.specs.declared.Direction.{Direction}
 use Rattle.sbox.specs.declared.Direction.the-variants.{Encrypt, Decrypt}
 use Rattle.cipher.specs.Block.{roundsIn}

@@ -123,13 +123,13 @@ unfolding sentIn padded
 none-sent = refl
 
 -- ---- strips
-pub record Good (s : List ℕ) : Type 0 where
+pub record GoodForm (s : List ℕ) : Type 0 where
   pub long : 4 ≤ length s
   pub short : length s ≤ 676
   pub framed : lengthField s + 2 ≡ length s
 
 -- a strip that passed its own checks
-pub own-good : (s : List ℕ) → passes (ownChecks s) ≡ true → Good s
+pub own-good : (s : List ℕ) → passes (ownChecks s) ≡ true → GoodForm s
 unfolding badFraming
 own-good s e =
     let p7 = passes-first 7 (badFraming s) _ e in
@@ -138,7 +138,7 @@ own-good s e =
     record { long = long; short = own-short s e; framed = omega arith }
 
 -- and it is read back from its room
-pub strip-back : (s : List ℕ) → Good s → stripIn (padded 676 s) ≡ s
+pub strip-back : (s : List ℕ) → GoodForm s → stripIn (padded 676 s) ≡ s
 unfolding stripIn padded
 strip-back s g =
     let field : lengthField (s ++ replicate (676 - length s) 0) ≡ lengthField s = field-front s _ (omega (arith, g .long)) in

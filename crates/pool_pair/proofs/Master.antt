@@ -28,7 +28,7 @@ use Rattle.pool_pair.specs.Pair.{Cabinet, handedIn, afterHanding, acknow
 use Rattle.pool_pair.specs.Claims.{refused16}
 use Rattle.pool_pair.proofs.Rooms.{Filled, next-filled, first-cleared, filled-here, filled-held, cleared-held, held-length, held-more}
 use Rattle.pool_state.proofs.Laws.{state-length, gone-other}
-use Rattle.pool_pair.proofs.Bytes.{number-back, Good, strip-back, state-back}
+use Rattle.pool_pair.proofs.Bytes.{number-back, GoodForm, strip-back, state-back}
 
 -- ---- a sound state, of a role from low to high: an outstanding message was sent, numbers fit their four bytes, and the rooms that strips have left are zero
 pub record Sound (low high : ℕ) (m : State) (rooms : List ℕ) : Type 0 where
@@ -106,7 +106,7 @@ module _ {low high : ℕ} {c : Cabinet} (v : Kept low high c) (h : high ≤ role
   sent-is = rw (lent-with 688) refl
 
 -- the strip that was put into a room is the one in it
-pub strip-here : {from added : ℕ} {rooms : List ℕ} (v : Filled from added rooms) (s : List ℕ) → Good s → added < from + 64 → stripIn (roomAt (filled rooms added s) added) ≡ s
+pub strip-here : {from added : ℕ} {rooms : List ℕ} (v : Filled from added rooms) (s : List ℕ) → GoodForm s → added < from + 64 → stripIn (roomAt (filled rooms added s) added) ≡ s
 strip-here v s g space = ap stripIn (filled-here v s (g .short) space) ∙ strip-back s g
 
 -- ---- refusals: 14 and 15 are the system's
@@ -123,7 +123,7 @@ module _ (m : State) (rooms : List ℕ) where
     go (suc count) e = lt-leb (m .added) (m .taken) (omega arith)
 
   -- ---- the pool after an addition and after a taking
-  pub pool-more : (role : ℕ) (s : List ℕ) → Good s → {from : ℕ} → Filled from (m .added) rooms → from ≤ m .taken → m .taken ≤ m .added → m .added < from + 64
+  pub pool-more : (role : ℕ) (s : List ℕ) → GoodForm s → {from : ℕ} → Filled from (m .added) rooms → from ≤ m .taken → m .taken ≤ m .added → m .added < from + 64
       → poolIn (oneMore m role) (filled rooms (m .added) s) ≡ mirror.put s (poolIn m rooms)
   unfolding poolIn oneMore mirror.put
   pool-more role s g v p q space =

@@ -11,7 +11,7 @@ use borrow.Author.Tests.{eqb-true, eqb-false, leb-false, ltb-true, ltb-false, le
 use Rattle.refusal.specs.declared.Refusal.{Refusal}
 use Rattle.refusal.specs.Answer as answer
 use Rattle.refusal.specs.Answer.{Answer, first, isNot, passes}
-use Rattle.refusal.proofs.First.{clash, neither, true-false, passes-first}
+use Rattle.refusal.proofs.First.{clash, neither, both-true, true-false, passes-first}
 use Rattle.strip.specs.Strip.{ownChecks}
 use Rattle.pool_message.specs.Message.{acknowledgement, readOf}
 use Rattle.pool_message.specs.declared.Message.{Message}
@@ -45,10 +45,6 @@ pub record Standby (byItself : ℕ) (c : Cabinet) : Type 0 where
   pub alone : stateIn (c .state) .role ≡ roles.standby → byItself ≡ 0
 
 -- ---- what a message asks for, in bytes and in the system
-both-true : (a b : Bool) → (a && b) ≡ true → (a ≡ true) × (b ≡ true)
-both-true true b e = (refl, e)
-both-true false b e = absurd (true-false (sym e))
-
 either-true : (a : Bool) → (a || true) ≡ true
 either-true true = refl
 either-true false = refl

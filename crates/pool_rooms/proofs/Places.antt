@@ -5,9 +5,11 @@ use mathlib.Core.Path.{_≡_, refl, ap, _∙_}
 use mathlib.Core.List.{List, [], _++_, append-nil}
 use lib.ListN.{length, take, drop, replicate, length-drop, drop-of-length-le}
 use lib.Seq.{take-length, length-take-le, drop-drop}
-use borrow.Author.Tests.{le-leb, lt-leb, eq-eqb, ne-eqb}
+use borrow.Author.Tests.{le-leb, lt-leb}
 use borrow.Rule.Slice.PartMut.{putMid}
-use Rattle.pool_rooms.specs.Rooms.{roomsSize, roomAt, withRoom, onRooms, padded, filled, filledBy, cleared}
+use Rattle.refusal.specs.Part.{onLength}
+use Rattle.refusal.proofs.Part.{of-length}
+use Rattle.pool_rooms.specs.Rooms.{roomsSize, roomAt, withRoom, padded, filled, filledBy, cleared}
 
 pub drop-zeros : (n m : ℕ) → drop {A = ℕ} n (replicate m 0) ≡ replicate (m - n) 0
 drop-zeros zero m = let e : m - 0 ≡ m = omega arith in rw e refl
@@ -58,20 +60,7 @@ module _ (rooms : List ℕ) (n start : ℕ) (e : start ≡ 676 * (n % 64)) where
       let z : drop (length room) strip ≡ [] = drop-of-length-le strip {i = length room} (omega arith) in
       p ∙ rw (z, take-length room, append-nil room) (room-read k h)
 
--- ---- the calls, which leave other lengths as they are
-module _ (f : List ℕ → List ℕ) (l x : List ℕ) where
-  pub on-rooms : length l ≡ roomsSize → x ≡ f l → x ≡ onRooms f l
-  unfolding onRooms
-  on-rooms h e = rw (eq-eqb (length l) roomsSize h) e
-
-  pub off-rooms : (length l ≡ roomsSize → ⊥) → x ≡ l → x ≡ onRooms f l
-  unfolding onRooms
-  off-rooms h e = rw (ne-eqb (length l) roomsSize h) e
-
-  whole : length l ≡ roomsSize → x ≡ onRooms f l → x ≡ f l
-  unfolding onRooms
-  whole h e = e ∙ rw (eq-eqb (length l) roomsSize h) refl
-
+-- ---- a strip put in, where a room can hold it
 module _ (n : ℕ) (s l x : List ℕ) where
   pub put-in : length s ≤ 676 → x ≡ filled l n s → x ≡ filledBy n s l
   unfolding filledBy
@@ -81,9 +70,6 @@ module _ (n : ℕ) (s l x : List ℕ) where
   unfolding filledBy
   too-long h e = rw (lt-leb (length s) 676 h) e
 
-  pub put-whole : length l ≡ roomsSize → length s ≤ 676 → x ≡ onRooms (filledBy n s) l → x ≡ filled l n s
+  pub put-whole : length l ≡ roomsSize → length s ≤ 676 → x ≡ onLength roomsSize (filledBy n s) l → x ≡ filled l n s
   unfolding filledBy
-  put-whole h g e = whole (filledBy n s) l x h e ∙ rw (le-leb (length s) 676 g) refl
-
-pub clear-whole : (n : ℕ) (l x : List ℕ) → length l ≡ roomsSize → x ≡ onRooms (λ l. cleared l n) l → x ≡ cleared l n
-clear-whole n l x h e = whole (λ l. cleared l n) l x h e
+  put-whole h g e = of-length (filledBy n s) l x h e ∙ rw (le-leb (length s) 676 g) refl

@@ -3,7 +3,7 @@ use Prim.Native.Nat.{ℕ, _+_, _-_, _*_, _%_}
 use mathlib.Core.List.{List, _++_}
 use mathlib.Core.Bool.{cond}
 use lib.ListN.{length, take, drop, replicate}
-use lib.Dec.{eqb, leb}
+use lib.Dec.{leb}
 use Rattle.strip.specs.Strip.{lengthField}
 
 -- 64 rooms of 676 bytes
@@ -16,10 +16,6 @@ roomAt rooms n = take 676 (drop (676 * (n % 64)) rooms)
 
 unfoldable pub withRoom : List ℕ → ℕ → List ℕ → List ℕ
 withRoom rooms n room = take (676 * (n % 64)) rooms ++ (room ++ drop (676 * (n % 64) + 676) rooms)
-
--- a step f where l is as long as all rooms; else l is left as it is
-unfoldable pub onRooms : (List ℕ → List ℕ) → List ℕ → List ℕ
-onRooms f l = cond (eqb (length l) roomsSize) (f l) l
 
 -- bytes, and zeros to a length
 unfoldable pub padded : ℕ → List ℕ → List ℕ

@@ -3,7 +3,8 @@ ghost use mathlib.Core.Path.{_≡_};
 ghost use Prim.Native.Nat.{_+_, _*_, _%_, _≤_};
 ghost use mathlib.Core.List.{List};
 ghost use lib.ListN.{length};
-ghost use Rattle.pool_rooms.specs.Rooms.{roomsSize, onRooms, padded, filledBy, cleared};
+ghost use Rattle.refusal.specs.Part.{onLength};
+ghost use Rattle.pool_rooms.specs.Rooms.{roomsSize, padded, filledBy, cleared};
 
 // Where the room begins of the strip that has n before it.
 pub fn room_start(n: u32) -> usize
@@ -23,7 +24,7 @@ fn fill(from: &[u8], part: &mut [u8])
 
 // Rooms of another length and a strip that no room can hold leave everything as it is.
 pub fn put(rooms: &mut [u8], n: u32, strip: &[u8])
-    ensures { λ _. ⌜ now (rooms .exit) ≡ onRooms (filledBy n (now (strip .entry))) (now (rooms .entry)) ⌝ }
+    ensures { λ _. ⌜ now (rooms .exit) ≡ onLength roomsSize (filledBy n (now (strip .entry))) (now (rooms .entry)) ⌝ }
 {
     if rooms.len() != 43264 {
         return;
@@ -36,7 +37,7 @@ pub fn put(rooms: &mut [u8], n: u32, strip: &[u8])
 }
 
 pub fn clear(rooms: &mut [u8], n: u32)
-    ensures { λ _. ⌜ now (rooms .exit) ≡ onRooms (λ l. cleared l n) (now (rooms .entry)) ⌝ }
+    ensures { λ _. ⌜ now (rooms .exit) ≡ onLength roomsSize (λ l. cleared l n) (now (rooms .entry)) ⌝ }
 {
     if rooms.len() == 43264 {
         let start = room_start(n);

@@ -5,7 +5,7 @@ use mathlib.Core.List.{List}
 use mathlib.Core.Bool.{Bool, true, false, _&&_}
 use lib.ListN.{length, take, drop}
 use Rattle.refusal.specs.Answer.{passes}
-use Rattle.refusal.proofs.First.{true-false}
+use Rattle.refusal.proofs.First.{both-true, true-false}
 use Rattle.strip.specs.Strip.{ownChecks}
 use Rattle.strip.proofs.Good.{own-short}
 use Rattle.pool_message.specs.declared.Message.{Message}
@@ -17,17 +17,13 @@ use Rattle.pool_checks.specs.Checks.{fits}
 use Rattle.pool_standby.specs.Calls.{applied}
 use Rattle.pool_checks.proofs.Fits.{whole-strip}
 
-both-first : (a b : Bool) → (a && b) ≡ true → a ≡ true
-both-first true b e = refl
-both-first false b e = e
-
 module _ (m : State) (x : Message) (b : List ℕ) where
   -- the strip of an addition that fits goes into a room
   pub fits-room : (k n : ℕ) → fits m x (drop 12 b) ≡ true → x ≡ Adds k n → length (take (length b - 12) (drop 12 b)) ≤ 676
   unfolding fits
   fits-room k n e f =
       let g : fits m (Adds k n) (drop 12 b) ≡ true = subst (λ (y : Message). fits m y (drop 12 b) ≡ true) f e in
-      rw (whole-strip b) (own-short (drop 12 b) (both-first (passes (ownChecks (drop 12 b))) _ g))
+      rw (whole-strip b) (own-short (drop 12 b) (both-true (passes (ownChecks (drop 12 b))) _ g .0))
 
   pub applied-adds : (k n : ℕ) (rooms st′ rooms′ : List ℕ) → x ≡ Adds k n → st′ ≡ stateBytes (record { role = 3; added = m .added + 1; taken = m .taken }) → rooms′ ≡ filled rooms (m .added) (take (length b - 12) (drop 12 b)) → (st′, rooms′) ≡ applied m x (drop 12 b) rooms
   unfolding applied oneMore

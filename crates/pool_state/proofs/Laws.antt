@@ -13,7 +13,7 @@ use Rattle.refusal.specs.declared.Check.the-variants.{Passed, Failed}
 use Rattle.refusal.proofs.First.{either-first, either-second}
 use Rattle.pool_message.specs.Message.{numberBytes}
 use Rattle.pool_state.specs.declared.State.{State}
-use Rattle.pool_state.specs.State.{written, stateIn, stateBytes, gone, neverSent, sentTooMuch, impossible, noState}
+use Rattle.pool_state.specs.State.{stateIn, stateBytes, gone, neverSent, sentTooMuch, impossible, noState}
 
 module _ (m : State) where
   -- ---- which numbers have left their rooms
@@ -91,17 +91,3 @@ module _ (l : List ℕ) where
 pub state-length : (m : State) → length (stateBytes m) ≡ 9
 unfolding stateBytes numberBytes
 state-length m = refl
-
--- ---- what is written
-module _ (m : State) (l x : List ℕ) where
-  pub is-written : length l ≡ 9 → x ≡ stateBytes m → x ≡ written m l
-  unfolding written
-  is-written h e = rw (eq-eqb (length l) 9 h) e
-
-  pub not-written : (length l ≡ 9 → ⊥) → x ≡ l → x ≡ written m l
-  unfolding written
-  not-written h e = rw (ne-eqb (length l) 9 h) e
-
-  pub written-nine : length l ≡ 9 → x ≡ written m l → x ≡ stateBytes m
-  unfolding written
-  written-nine h e = e ∙ rw (eq-eqb (length l) 9 h) refl

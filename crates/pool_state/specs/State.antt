@@ -32,10 +32,6 @@ stateIn l = record { role = getD l 0 0; added = numberAt l 1; taken = numberAt l
 unfoldable pub stateBytes : State → List ℕ
 stateBytes m = m .role ∷ numberBytes (m .added) ++ numberBytes (m .taken)
 
--- written over a part of nine bytes; any other is left as it is
-unfoldable pub written : State → List ℕ → List ℕ
-written m l = cond (eqb (length l) 9) (stateBytes m) l
-
 -- a master after one more addition, after one more taking, and only in another role
 unfoldable pub oneMore : State → ℕ → State
 oneMore m role = record { role = role; added = m .added + 1; taken = m .taken }

@@ -2,7 +2,8 @@
 ghost use mathlib.Core.Path.{_≡_};
 ghost use Prim.Native.Nat.{_<_};
 ghost use Rattle.refusal.specs.Refusal.{failed};
-ghost use Rattle.pool_state.specs.State.{stateIn, stateBytes, written, sent, gone, neverSent, sentTooMuch, impossible, noState};
+ghost use Rattle.refusal.specs.Part.{onLength};
+ghost use Rattle.pool_state.specs.State.{stateIn, stateBytes, sent, gone, neverSent, sentTooMuch, impossible, noState};
 use refusal::Check;
 
 // The roles: 0 active with nothing outstanding, 1 with an addition, 2 with a taking outstanding, 3 standby, 4 alone.
@@ -50,7 +51,7 @@ fn state_bytes(master: State) -> [u8; 9]
 
 // A state is written over; a part of any other length is left as it is.
 pub fn write(role: u8, added: u32, taken: u32, state: &mut [u8])
-    ensures { λ _. ⌜ now (state .exit) ≡ written (record { role = role; added = added; taken = taken }) (now (state .entry)) ⌝ }
+    ensures { λ _. ⌜ now (state .exit) ≡ onLength 9 (λ _. stateBytes (record { role = role; added = added; taken = taken })) (now (state .entry)) ⌝ }
 {
     if state.len() == 9 {
         let all = state_bytes(State { role, added, taken });

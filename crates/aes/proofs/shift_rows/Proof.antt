@@ -2,7 +2,7 @@
 use mathlib.Core.Path.{refl}
 use borrow.Author.Needs.{needs}
 use Rattle.aes.proofs.Rows.{rows-shifted}
-use Rattle.aes.proofs.Chosen.{on-state, off-state}
+use Rattle.refusal.proofs.Part.{on-length, off-length}
 use Rattle.aes.proofs.shift_rows.Statement.{statement}
 use Rattle.aes.proofs.shift_rows.Tie as tie
 
@@ -24,11 +24,11 @@ returns c =
     let second = third .before .before .before .before in
     let first = second .before .before .before .before in
     let long = first .before .before .if1 .taken in
-    on-state _ _ _ long
+    on-length _ _ _ long
     (rows-shifted _ _ _ _ long (first .turn-row .ensures) (second .turn-row2 .ensures) (third .turn-row3 .ensures))
 
 returns-2 : tie.Need-returns-2
-returns-2 c = off-state _ _ _ (c .if1 .left) refl
+returns-2 c = off-length _ _ _ (c .if1 .left) refl
 
 pub shift-rows-spec : {M : Type 1} → statement M
 shift-rows-spec =

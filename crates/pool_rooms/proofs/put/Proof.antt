@@ -1,16 +1,17 @@
 -- `pool_rooms::put` meets its contract: by the lengths, then from what is left in the part that is the room. Assumes nothing.
 use mathlib.Core.Path.{refl}
 use native.Mathlib.Omega.{arith}
-use Rattle.pool_rooms.proofs.Places.{on-rooms, off-rooms, put-in, too-long, room-filled}
+use Rattle.refusal.proofs.Part.{on-length, off-length}
+use Rattle.pool_rooms.proofs.Places.{put-in, too-long, room-filled}
 use borrow.Author.Needs.{needs}
 use Rattle.pool_rooms.proofs.put.Statement.{statement}
 use Rattle.pool_rooms.proofs.put.Tie as tie
 
 returns : tie.Need-returns
-returns c = off-rooms _ _ _ (λ h. omega arith) refl
+returns c = off-length _ _ _ (λ h. omega arith) refl
 
 returns-2 : tie.Need-returns-2
-returns-2 c = on-rooms _ _ _ (omega arith) (too-long _ _ _ _ (omega arith) refl)
+returns-2 c = on-length _ _ _ (omega arith) (too-long _ _ _ _ (omega arith) refl)
 
 room-start-requires : tie.Need-room-start-requires
 room-start-requires c κs = search needs
@@ -34,7 +35,7 @@ same-length : tie.Need-same-length
 same-length c = search needs
 
 returns-3 : tie.Need-returns-3
-returns-3 c = on-rooms _ (c .before .before .before .before .before .before .before .before .before .args .rooms .now) _ (omega arith) (put-in _ _ _ _ (omega arith) (room-filled _ _ _ (c .before .before .before .before .room-start .ensures .0) _ _ (omega (arith, c .before .before .before .before .room-start .ensures .1)) (c .before .before .fill .ensures)))
+returns-3 c = on-length _ (c .before .before .before .before .before .before .before .before .before .args .rooms .now) _ (omega arith) (put-in _ _ _ _ (omega arith) (room-filled _ _ _ (c .before .before .before .before .room-start .ensures .0) _ _ (omega (arith, c .before .before .before .before .room-start .ensures .1)) (c .before .before .fill .ensures)))
 
 pub put-spec : {M : Type 1} → statement M
 put-spec =

@@ -1,7 +1,7 @@
 -- `pool_standby::apply_next` meets its contract: by what the message is, the room and the state written. Assumes nothing.
 use native.Mathlib.Omega.{arith}
-use Rattle.pool_rooms.proofs.Places.{put-whole, clear-whole}
-use Rattle.pool_state.proofs.Laws.{written-nine}
+use Rattle.refusal.proofs.Part.{of-length}
+use Rattle.pool_rooms.proofs.Places.{put-whole}
 use Rattle.pool_checks.proofs.Fits.{has-strip}
 use Rattle.pool_standby.proofs.Applied.{fits-room, applied-adds, applied-takes, fits-no-acknowledgement, fits-not-unreadable}
 use borrow.Author.Needs.{needs}
@@ -54,7 +54,7 @@ same-length-2 : tie.Need-same-length-2
 same-length-2 c = search needs
 
 returns : tie.Need-returns
-returns c = applied-adds (c .before .before .before .before .before .before .before .before .before .before .before .before .before .before .before .args .master) (c .before .before .before .before .before .before .before .before .before .before .before .before .before .before .before .args .asked) (c .before .before .before .before .before .before .before .before .before .before .before .before .before .before .before .args .message .now) _ _ (c .before .before .before .before .before .before .before .before .before .before .before .before .before .before .before .args .rooms .now) _ _ (c .before .before .before .before .before .before .before .before .before .before .enum-told .given .1) (written-nine _ (c .before .before .before .before .before .before .before .before .before .before .before .before .before .before .before .args .state .now) _ (omega arith) (c .before .before .write .ensures)) (put-whole _ _ _ _ (omega arith) (fits-room (c .before .before .before .before .before .before .before .before .before .before .before .before .before .before .before .args .master) (c .before .before .before .before .before .before .before .before .before .before .before .before .before .before .before .args .asked) (c .before .before .before .before .before .before .before .before .before .before .before .before .before .before .before .args .message .now) _ _ (c .before .before .before .before .before .before .before .before .before .before .before .before .before .before .before .pre .0 .1) (c .before .before .before .before .before .before .before .before .before .before .enum-told .given .1)) (c .before .before .before .before .before .before .before .put .ensures))
+returns c = applied-adds (c .before .before .before .before .before .before .before .before .before .before .before .before .before .before .before .args .master) (c .before .before .before .before .before .before .before .before .before .before .before .before .before .before .before .args .asked) (c .before .before .before .before .before .before .before .before .before .before .before .before .before .before .before .args .message .now) _ _ (c .before .before .before .before .before .before .before .before .before .before .before .before .before .before .before .args .rooms .now) _ _ (c .before .before .before .before .before .before .before .before .before .before .enum-told .given .1) (of-length _ (c .before .before .before .before .before .before .before .before .before .before .before .before .before .before .before .args .state .now) _ (omega arith) (c .before .before .write .ensures)) (put-whole _ _ _ _ (omega arith) (fits-room (c .before .before .before .before .before .before .before .before .before .before .before .before .before .before .before .args .master) (c .before .before .before .before .before .before .before .before .before .before .before .before .before .before .before .args .asked) (c .before .before .before .before .before .before .before .before .before .before .before .before .before .before .before .args .message .now) _ _ (c .before .before .before .before .before .before .before .before .before .before .before .before .before .before .before .pre .0 .1) (c .before .before .before .before .before .before .before .before .before .before .enum-told .given .1)) (c .before .before .before .before .before .before .before .put .ensures))
 
 same-length-3 : tie.Need-same-length-3
 same-length-3 c = search needs
@@ -63,7 +63,7 @@ same-length-4 : tie.Need-same-length-4
 same-length-4 c = search needs
 
 returns-2 : tie.Need-returns-2
-returns-2 c = applied-takes (c .before .before .before .before .before .before .before .before .before .before .before .before .before .before .args .master) (c .before .before .before .before .before .before .before .before .before .before .before .before .before .before .args .asked) (c .before .before .before .before .before .before .before .before .before .before .before .before .before .before .args .message .now) _ _ (c .before .before .before .before .before .before .before .before .before .before .before .before .before .before .args .rooms .now) _ _ (c .before .before .before .before .before .before .before .before .before .enum-told2 .given .1) (written-nine _ (c .before .before .before .before .before .before .before .before .before .before .before .before .before .before .args .state .now) _ (omega arith) (c .before .before .write2 .ensures)) (clear-whole _ _ _ (omega arith) (c .before .before .before .before .before .before .before .clear .ensures))
+returns-2 c = applied-takes (c .before .before .before .before .before .before .before .before .before .before .before .before .before .before .args .master) (c .before .before .before .before .before .before .before .before .before .before .before .before .before .before .args .asked) (c .before .before .before .before .before .before .before .before .before .before .before .before .before .before .args .message .now) _ _ (c .before .before .before .before .before .before .before .before .before .before .before .before .before .before .args .rooms .now) _ _ (c .before .before .before .before .before .before .before .before .before .enum-told2 .given .1) (of-length _ (c .before .before .before .before .before .before .before .before .before .before .before .before .before .before .args .state .now) _ (omega arith) (c .before .before .write2 .ensures)) (of-length _ _ _ (omega arith) (c .before .before .before .before .before .before .before .clear .ensures))
 
 returns-3 : tie.Need-returns-3
 returns-3 c = fits-no-acknowledgement (c .before .before .before .before .before .args .master) (c .before .before .before .before .before .args .asked) (c .before .before .before .before .before .args .message .now) _ (c .before .before .before .before .before .pre .0 .1) (c .enum-told3 .given .1)

@@ -1,5 +1,5 @@
 -- `pool_standby::write_alone` meets its contract: from the state written. Assumes nothing.
-use Rattle.pool_state.proofs.Laws.{written-nine}
+use Rattle.refusal.proofs.Part.{of-length}
 use Rattle.pool_standby.proofs.Promise.{alone-nine, alone-done}
 use borrow.Author.Needs.{needs}
 use Rattle.pool_standby.proofs.write_alone.Statement.{statement}
@@ -15,7 +15,7 @@ same-length : tie.Need-same-length
 same-length c = search needs
 
 returns : tie.Need-returns
-returns c = alone-done (c .before .before .before .before .before .before .before .args .state .now) _ _ (c .before .before .before .before .read .ensures) (written-nine _ _ _ (alone-nine _ (c .before .before .before .before .before .before .before .pre)) (c .before .before .write .ensures))
+returns c = alone-done (c .before .before .before .before .before .before .before .args .state .now) _ _ (c .before .before .before .before .read .ensures) (of-length _ _ _ (alone-nine _ (c .before .before .before .before .before .before .before .pre)) (c .before .before .write .ensures))
 
 pub write-alone-spec : {M : Type 1} → statement M
 write-alone-spec = tie.close (tie.spec read-requires write-requires same-length returns)

@@ -2,7 +2,8 @@
 use mathlib.Core.Path.{refl}
 use native.Mathlib.Omega.{arith}
 use Rattle.pool_message.proofs.Laws.{copied}
-use Rattle.pool_state.proofs.Laws.{state-length, is-written, not-written}
+use Rattle.refusal.proofs.Part.{on-length, off-length}
+use Rattle.pool_state.proofs.Laws.{state-length}
 use borrow.Author.Needs.{needs}
 use Rattle.pool_state.proofs.write.Statement.{statement}
 use Rattle.pool_state.proofs.write.Tie as tie
@@ -20,10 +21,10 @@ same-length : tie.Need-same-length
 same-length c = search needs
 
 returns : tie.Need-returns
-returns c = is-written _ (c .before .before .before .before .before .before .before .before .args .state .now) _ (omega arith) (copied _ _ (c .before .before .before .before .before .before .before .before .args .state .now) _ 9 (c .before .before .before .before .before .state-bytes .ensures) (state-length _) (omega arith) (c .before .before .copy .ensures .1))
+returns c = on-length _ (c .before .before .before .before .before .before .before .before .args .state .now) _ (omega arith) (copied _ _ (c .before .before .before .before .before .before .before .before .args .state .now) _ 9 (c .before .before .before .before .before .state-bytes .ensures) (state-length _) (omega arith) (c .before .before .copy .ensures .1))
 
 returns-2 : tie.Need-returns-2
-returns-2 c = not-written _ _ _ (λ h. omega arith) refl
+returns-2 c = off-length _ _ _ (λ h. omega arith) refl
 
 pub write-spec : {M : Type 1} → statement M
 write-spec =

@@ -1,7 +1,8 @@
 -- `pool_active::parts::hand_out` meets its contract: from the room's bytes copied, the room zeroed and the number written. Assumes nothing.
 use mathlib.Core.Path.{refl}
 use native.Mathlib.Omega.{arith}
-use Rattle.pool_rooms.proofs.Places.{room-copied, clear-whole}
+use Rattle.refusal.proofs.Part.{of-length}
+use Rattle.pool_rooms.proofs.Places.{room-copied}
 use Rattle.pool_active.proofs.Promise.{handed-out}
 use borrow.Author.Needs.{needs}
 use Rattle.pool_active.proofs.parts.hand_out.Statement.{statement}
@@ -44,7 +45,7 @@ same-length-3 : tie.Need-same-length-3
 same-length-3 c = search needs
 
 returns : tie.Need-returns
-returns c = handed-out _ _ _ _ _ (clear-whole _ _ _ (omega arith) (c .before .before .before .before .before .before .clear .ensures)) (c .before .before .write-number .ensures) (room-copied _ _ _ (c .before .before .before .before .before .before .before .before .before .before .before .before .before .before .room-start .ensures .0) _ (c .before .before .before .before .before .before .before .before .before .before .before .before .before .before .before .before .before .before .args .strip .now) _ refl (omega arith) (omega (arith, c .before .before .before .before .before .before .before .before .before .before .before .before .before .before .room-start .ensures .1)) (c .before .before .before .before .before .before .before .before .before .before .copy .ensures .1))
+returns c = handed-out _ _ _ _ _ (of-length _ _ _ (omega arith) (c .before .before .before .before .before .before .clear .ensures)) (c .before .before .write-number .ensures) (room-copied _ _ _ (c .before .before .before .before .before .before .before .before .before .before .before .before .before .before .room-start .ensures .0) _ (c .before .before .before .before .before .before .before .before .before .before .before .before .before .before .before .before .before .before .args .strip .now) _ refl (omega arith) (omega (arith, c .before .before .before .before .before .before .before .before .before .before .before .before .before .before .room-start .ensures .1)) (c .before .before .before .before .before .before .before .before .before .before .copy .ensures .1))
 
 pub hand-out-spec : {M : Type 1} → statement M
 hand-out-spec =

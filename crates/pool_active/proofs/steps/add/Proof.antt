@@ -1,7 +1,7 @@
 -- `pool_active::steps::add` meets its contract: from what its checks leave, the room filled and the state written. Assumes nothing.
 use native.Mathlib.Omega.{arith}
 use Rattle.pool_rooms.proofs.Places.{put-whole}
-use Rattle.pool_state.proofs.Laws.{written-nine}
+use Rattle.refusal.proofs.Part.{of-length}
 use Rattle.pool_active.proofs.Promise.{add-may, added-so, add-done}
 use borrow.Author.Needs.{needs}
 use Rattle.pool_active.proofs.steps.add.Statement.{statement}
@@ -29,7 +29,7 @@ same-length-2 : tie.Need-same-length-2
 same-length-2 c = search needs
 
 returns : tie.Need-returns
-returns c = add-done (c .before .before .before .before .before .before .before .before .before .before .before .before .before .before .before .args .state .now) (c .before .before .before .before .before .before .before .before .before .before .before .before .before .before .before .args .rooms .now) (c .before .before .before .before .before .before .before .before .before .before .before .before .before .before .before .args .strip .now) (c .before .before .before .before .before .before .before .before .before .before .before .before .before .before .before .pre) _ (c .before .before .before .before .before .before .before .before .before .before .read .ensures) _ _ (c .before .before .before .before .before .before .before .before .before .role-sending .ensures) (added-so _ _ (c .before .before .before .before .before .before .before .before .before .before .before .before .before .before .before .args .rooms .now) (c .before .before .before .before .before .before .before .before .before .before .before .before .before .before .before .args .strip .now) _ _ (written-nine _ (c .before .before .before .before .before .before .before .before .before .before .before .before .before .before .before .args .state .now) _ (add-may (c .before .before .before .before .before .before .before .before .before .before .before .before .before .before .before .args .state .now) (c .before .before .before .before .before .before .before .before .before .before .before .before .before .before .before .args .rooms .now) (c .before .before .before .before .before .before .before .before .before .before .before .before .before .before .before .args .strip .now) (c .before .before .before .before .before .before .before .before .before .before .before .before .before .before .before .pre) _ (c .before .before .before .before .before .before .before .before .before .before .read .ensures) .0 .0) (c .before .before .write .ensures)) (put-whole _ _ _ _ (add-may (c .before .before .before .before .before .before .before .before .before .before .before .before .before .before .before .args .state .now) (c .before .before .before .before .before .before .before .before .before .before .before .before .before .before .before .args .rooms .now) (c .before .before .before .before .before .before .before .before .before .before .before .before .before .before .before .args .strip .now) (c .before .before .before .before .before .before .before .before .before .before .before .before .before .before .before .pre) _ (c .before .before .before .before .before .before .before .before .before .before .read .ensures) .0 .1) (add-may (c .before .before .before .before .before .before .before .before .before .before .before .before .before .before .before .args .state .now) (c .before .before .before .before .before .before .before .before .before .before .before .before .before .before .before .args .rooms .now) (c .before .before .before .before .before .before .before .before .before .before .before .before .before .before .before .args .strip .now) (c .before .before .before .before .before .before .before .before .before .before .before .before .before .before .before .pre) _ (c .before .before .before .before .before .before .before .before .before .before .read .ensures) .1 .0) (c .before .before .before .before .before .before .before .put .ensures)))
+returns c = add-done (c .before .before .before .before .before .before .before .before .before .before .before .before .before .before .before .args .state .now) (c .before .before .before .before .before .before .before .before .before .before .before .before .before .before .before .args .rooms .now) (c .before .before .before .before .before .before .before .before .before .before .before .before .before .before .before .args .strip .now) (c .before .before .before .before .before .before .before .before .before .before .before .before .before .before .before .pre) _ (c .before .before .before .before .before .before .before .before .before .before .read .ensures) _ _ (c .before .before .before .before .before .before .before .before .before .role-sending .ensures) (added-so _ _ (c .before .before .before .before .before .before .before .before .before .before .before .before .before .before .before .args .rooms .now) (c .before .before .before .before .before .before .before .before .before .before .before .before .before .before .before .args .strip .now) _ _ (of-length _ (c .before .before .before .before .before .before .before .before .before .before .before .before .before .before .before .args .state .now) _ (add-may (c .before .before .before .before .before .before .before .before .before .before .before .before .before .before .before .args .state .now) (c .before .before .before .before .before .before .before .before .before .before .before .before .before .before .before .args .rooms .now) (c .before .before .before .before .before .before .before .before .before .before .before .before .before .before .before .args .strip .now) (c .before .before .before .before .before .before .before .before .before .before .before .before .before .before .before .pre) _ (c .before .before .before .before .before .before .before .before .before .before .read .ensures) .0 .0) (c .before .before .write .ensures)) (put-whole _ _ _ _ (add-may (c .before .before .before .before .before .before .before .before .before .before .before .before .before .before .before .args .state .now) (c .before .before .before .before .before .before .before .before .before .before .before .before .before .before .before .args .rooms .now) (c .before .before .before .before .before .before .before .before .before .before .before .before .before .before .before .args .strip .now) (c .before .before .before .before .before .before .before .before .before .before .before .before .before .before .before .pre) _ (c .before .before .before .before .before .before .before .before .before .before .read .ensures) .0 .1) (add-may (c .before .before .before .before .before .before .before .before .before .before .before .before .before .before .before .args .state .now) (c .before .before .before .before .before .before .before .before .before .before .before .before .before .before .before .args .rooms .now) (c .before .before .before .before .before .before .before .before .before .before .before .before .before .before .before .args .strip .now) (c .before .before .before .before .before .before .before .before .before .before .before .before .before .before .before .pre) _ (c .before .before .before .before .before .before .before .before .before .before .read .ensures) .1 .0) (c .before .before .before .before .before .before .before .put .ensures)))
 
 pub add-spec : {M : Type 1} → statement M
 add-spec =

@@ -1,6 +1,6 @@
 -- `pool_active::steps::settle_state` meets its contract: from the state written and what is handed out. Assumes nothing.
 use native.Mathlib.Omega.{arith}
-use Rattle.pool_state.proofs.Laws.{written-nine}
+use Rattle.refusal.proofs.Part.{of-length}
 use Rattle.pool_active.proofs.Promise.{settled}
 use borrow.Author.Needs.{needs}
 use Rattle.pool_active.proofs.steps.settle_state.Statement.{statement}
@@ -28,7 +28,7 @@ same-length-4 : tie.Need-same-length-4
 same-length-4 c = search needs
 
 returns : tie.Need-returns
-returns c = settled _ (c .before .before .before .before .before .before .before .before .before .before .before .before .before .before .before .before .before .before .before .before .args .rooms .now) (c .before .before .before .before .before .before .before .before .before .before .before .before .before .before .before .before .before .before .before .before .args .strip .now) _ _ _ (written-nine _ (c .before .before .before .before .before .before .before .before .before .before .before .before .before .before .before .before .before .before .before .before .args .state .now) _ (omega arith) (c .before .before .before .before .before .before .before .before .before .before .before .before .before .before .write .ensures)) (c .before .before .before .before .before .before .before .before .before .before2 .ensures) (c .before .before .before .before .before .before .hand-out-if .ensures)
+returns c = settled _ (c .before .before .before .before .before .before .before .before .before .before .before .before .before .before .before .before .before .before .before .before .args .rooms .now) (c .before .before .before .before .before .before .before .before .before .before .before .before .before .before .before .before .before .before .before .before .args .strip .now) _ _ _ (of-length _ (c .before .before .before .before .before .before .before .before .before .before .before .before .before .before .before .before .before .before .before .before .args .state .now) _ (omega arith) (c .before .before .before .before .before .before .before .before .before .before .before .before .before .before .write .ensures)) (c .before .before .before .before .before .before .before .before .before .before2 .ensures) (c .before .before .before .before .before .before .hand-out-if .ensures)
 
 pub settle-state-spec : {M : Type 1} → statement M
 settle-state-spec =
