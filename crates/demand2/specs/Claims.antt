@@ -26,7 +26,7 @@ abbrev pub unmasked : Answer (Unit {0}) × (List ℕ × (List ℕ × List ℕ)) 
 unmasked (a, (d, (m, s))) = d ⊞ m
 
 -- a key of 16, 24 or 32 bytes, a buffer for its words, and an unspent strip of good form for that key size
-pub record Good (key buffer d m s : List ℕ) : Type 0 where
+pub record GoodInput (key buffer d m s : List ℕ) : Type 0 where
   pub rightKey : wrongKey key ≡ false
   pub rightBuffer : wrongBuffer key buffer ≡ false
   pub sixteen : (length d ≡ 16) × (length m ≡ 16)
@@ -34,10 +34,10 @@ pub record Good (key buffer d m s : List ℕ) : Type 0 where
 
 -- for every key, block, mask and good strip: served, and without its mask it is AES
 abbrev pub Served : Type 0
-Served = (dir : Direction) (key buffer d m s : List ℕ) → Good key buffer d m s
+Served = (dir : Direction) (key buffer d m s : List ℕ) → GoodInput key buffer d m s
     → let after = blockOf dir d m (expansionOf key buffer .1) s in (answer after ≡ done tt) × (unmasked after ≡ aes dir key (d ⊞ m))
 
 -- decrypting what was encrypted, with a further strip, gives the block back
 abbrev pub GivenBack : Type 0
-GivenBack = (key buffer d m s t : List ℕ) → Good key buffer d m s → formOf t (length key) ≡ done tt → Bytes key → Bytes d → Bytes m
+GivenBack = (key buffer d m s t : List ℕ) → GoodInput key buffer d m s → formOf t (length key) ≡ done tt → Bytes key → Bytes d → Bytes m
     → let w = expansionOf key buffer .1 in let sent = blockOf Encrypt d m w s .1 in unmasked (blockOf Decrypt (sent .0) (sent .1 .0) w t) ≡ d ⊞ m

@@ -1,30 +1,14 @@
 -- A buffer that the loop of key expansion fills, word by word, behind the key. Assumes nothing.
-use Prim.Native.Nat.{ℕ, zero, suc, _+_, _-_, _*_, _≤_, _<_}
+use Prim.Native.Nat.{ℕ, suc, _+_, _-_, _*_, _≤_, _<_}
 use mathlib.Core.Path.{_≡_, refl, ap, _∙_}
-use mathlib.Core.List.{List, [], _∷_, _++_, append-assoc, append-nil}
-use native.Mathlib.Nat.{add-sub-cancel-left, not-suc-le-zero, le-of-suc-le-suc}
-use native.Mathlib.Numerals.{add-one}
+use mathlib.Core.List.{List, _++_, append-assoc, append-nil}
+use native.Mathlib.Nat.{add-sub-cancel-left}
 use native.Mathlib.Omega.{arith}
-use lib.ListN.{length, getD, take, drop, set, length-append, take-append-drop, length-take, length-drop, drop-of-length-le}
+use lib.ListN.{length, take, drop, length-append, take-append-drop, length-take, length-drop, drop-of-length-le}
 use lib.Seq.{take-length, take-at, drop-at, drop-drop}
 use borrow.Rule.Slice.PartMut.{same-len-mid}
 use Rattle.fips197.specs.Cipher.{expanded}
 use Rattle.expansion.specs.Inner.{nextWord}
-
--- a list whose first elements a loop replaces by those of another
-copied-suc : (from to : List ℕ) (i : ℕ) → i < length from → length from ≤ length to
-    → set (take i from ++ drop i to) i (getD from i 0) ≡ take (suc i) from ++ drop (suc i) to
-copied-suc [] to i h g = absurd (not-suc-le-zero h)
-copied-suc (x ∷ from) [] i h g = absurd (omega arith)
-copied-suc (x ∷ from) (y ∷ to) zero h g = refl
-copied-suc (x ∷ from) (y ∷ to) (suc i) h g = ap (λ (t : List ℕ). x ∷ t) (copied-suc from to i (le-of-suc-le-suc h) (omega arith))
-
-module _ (from to now : List ℕ) (i : ℕ) (is : now ≡ take i from ++ drop i to) where
-  pub copied-more : i < length from → length from ≤ length to → set now i (getD from i 0) ≡ take (i + 1) from ++ drop (i + 1) to
-  copied-more h g = rw (is, add-one i) (copied-suc from to i h g)
-
-  pub copied-all : length from ≤ i → i ≤ length from → now ≡ from ++ drop (length from) to
-  copied-all h g = let e : i ≡ length from = omega arith in is ∙ rw (e, take-length) refl
 
 -- what the loop keeps: the words up to i stand behind one another, and the rest is as it was
 pub record Grew (w₀ : List ℕ) (nk words : ℕ) (w : List ℕ) (i : ℕ) : Type 0 where
@@ -49,7 +33,7 @@ module _ (w₀ : List ℕ) (nk words : ℕ) where
 
   -- the next word a, copied into the four bytes at its place, is all that becomes of them
   pub grew-more : (w a new : List ℕ) (i : ℕ) → Grew w₀ nk words w i → i < words → a ≡ nextWord nk i (take (4 * i) w) → length a ≡ 4
-      → new ≡ a ++ drop (length a) (take (4 * i + 4 - 4 * i) (drop (4 * i) w))
+      → new ≡ take (length a) a ++ drop (length a) (take (4 * i + 4 - 4 * i) (drop (4 * i) w))
       → Grew w₀ nk words (take (4 * i) w ++ (new ++ drop (4 * i + 4 - 4 * i) (drop (4 * i) w))) (i + 1)
   unfolding expanded nextWord
   grew-more w a new i g h e l c =
@@ -62,7 +46,7 @@ module _ (w₀ : List ℕ) (nk words : ℕ) where
       let d : drop (4 * i) w ≡ drop (4 * i) w₀ = rw (g .is) (drop-at G (drop (4 * i) w₀) (4 * i) (g .front)) in
       let a-is : a ≡ nextWord nk i G = rw t at e in
       let short : length (take (4 * i + 4 - 4 * i) (drop (4 * i) w)) ≤ length a = omega arith in
-      let new-is : new ≡ a = c ∙ rw (drop-of-length-le _ short, append-nil) refl in
+      let new-is : new ≡ a = c ∙ rw (take-length, drop-of-length-le _ short, append-nil) refl in
       record {
         least = omega (arith, g .least);
         most = omega arith;

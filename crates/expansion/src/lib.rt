@@ -1,8 +1,7 @@
 // Key expansion of FIPS 197, from a bare key to bare round keys. Jumps and indices hang on lengths and places alone, never on a byte of the key.
 ghost use mathlib.Core.Path.{_≡_};
-ghost use mathlib.Core.List.{_++_};
 ghost use Prim.Native.Nat.{_+_, _-_, _*_, _≤_, _<_};
-ghost use lib.ListN.{length, take, drop};
+ghost use lib.ListN.{length, take};
 ghost use Rattle.fips197.specs.Cipher.{_⊞_, word, rotWord, subWord, power, rcon, temp, expanded, keyExpansion};
 ghost use Rattle.refusal.specs.Answer.{outcome};
 ghost use Rattle.expansion.specs.Expansion.{expansionOf};
@@ -33,14 +32,14 @@ fn round_constant(j: usize) -> [u8; 4]
 }
 
 // 5.2 RotWord
-fn rotated(a: [u8; 4]) -> [u8; 4]
+fn rot_word(a: [u8; 4]) -> [u8; 4]
     ensures { λ r. ⌜ r ≡ rotWord a ⌝ }
 {
     [a[1], a[2], a[3], a[0]]
 }
 
 // 5.2 SubWord
-fn substituted(a: [u8; 4]) -> [u8; 4]
+fn sub_word(a: [u8; 4]) -> [u8; 4]
     ensures { λ r. ⌜ r ≡ subWord a ⌝ }
 {
     [
@@ -64,10 +63,10 @@ fn temp(nk: usize, i: usize, a: [u8; 4]) -> [u8; 4]
     ensures { λ r. ⌜ r ≡ temp nk i a ⌝ }
 {
     if i % nk == 0 {
-        return sum(substituted(rotated(a)), round_constant(i / nk));
+        return sum(sub_word(rot_word(a)), round_constant(i / nk));
     }
     if nk > 6 && i % nk == 4 {
-        return substituted(a);
+        return sub_word(a);
     }
     a
 }
@@ -91,18 +90,6 @@ fn next_word(nk: usize, i: usize, w: &[u8]) -> [u8; 4]
     sum(first, temp(nk, i, last))
 }
 
-// The first bytes of a part give way to those of another.
-fn copy(to: &mut [u8], from: &[u8])
-    requires { ⌜ length (now from) ≤ length (now to) ⌝ }
-    ensures { λ _. ⌜ now (to .exit) ≡ now (from .entry) ++ drop (length (now (from .entry))) (now (to .entry)) ⌝ }
-{
-    let mut i = 0;
-    while i < from.len() {
-        to[i] = from[i];
-        i += 1;
-    }
-}
-
 // 5.2 the words behind the first nk, one after the other.
 fn expand_words(nk: usize, w: &mut [u8], words: usize)
     requires { ⌜ (0 < nk) × ((nk ≤ words) × (length (now w) ≡ 4 * words)) ⌝ }
@@ -112,7 +99,7 @@ fn expand_words(nk: usize, w: &mut [u8], words: usize)
     while i < words {
         let at = 4 * i;
         let next = next_word(nk, i, &w[..at]);
-        copy(&mut w[at..at + 4], &next);
+        bytes::copy(&next, &mut w[at..at + 4]);
         i += 1;
     }
 }
@@ -122,7 +109,7 @@ fn key_expansion(nk: usize, nr: usize, key: &[u8], w: &mut [u8])
     requires { ⌜ (0 < nk) × ((nk ≤ nr) × ((length (now key) ≡ 4 * nk) × (length (now w) ≡ 16 * (nr + 1)))) ⌝ }
     ensures { λ _. ⌜ now (w .exit) ≡ keyExpansion nk nr (now (key .entry)) ⌝ }
 {
-    copy(w, key);
+    bytes::copy(key, w);
     expand_words(nk, w, 4 * (nr + 1));
 }
 

@@ -2,7 +2,7 @@
 use Prim.Native.Nat.{ℕ, zero, suc, _≤_, _<_}
 use native.Mathlib.Omega.{arith}
 use mathlib.Core.Path.{_≡_, refl, sym, ap, ap₂, _∙_}
-use mathlib.Core.List.{List, [], _∷_}
+use mathlib.Core.List.{List, [], _∷_, _++_}
 use mathlib.Core.Bool.{Bool, true, false, _||_}
 use lib.ListN.{length, getD, set}
 use borrow.Author.Tests.{ne-eqb}
@@ -10,9 +10,12 @@ use Rattle.fips197.proofs.Lists.{eta}
 use Rattle.refusal.specs.declared.Refusal.{Refusal}
 use Rattle.refusal.specs.declared.Check.{Check}
 use Rattle.refusal.specs.declared.Check.the-variants.{Passed, Failed}
+use Rattle.refusal.specs.declared.Outcome.{Outcome}
+use Rattle.refusal.specs.declared.Outcome.the-variants as outcomes
 use Rattle.refusal.specs.Refusal.{number, refusal, failed}
-use Rattle.refusal.specs.Answer.{Answer, done, refused, answerNumber, numbered, first, above, isNot}
-use Rattle.refusal.proofs.First.{first-stop, first-on, all-passed, one-failed, first-part, passed-is, neither}
+use Rattle.refusal.specs.Answer.{Answer, done, refused, answerNumber, numbered, first, above, isNot, outcome}
+use Rattle.refusal.proofs.First.{first-stop, first-on, all-passed, one-failed, front-failed, front-passed, first-part, passed-is, neither, passes-first, call-passes}
+use Rattle.tower.specs.declared.Record.{Record}
 use Rattle.points.specs.Points.{recordPoints}
 use Rattle.inversion.specs.declared.Masked.{Masked}
 use Rattle.inversion.specs.declared.Masked.the-variants.{Byte, Refused}
@@ -21,7 +24,7 @@ use Rattle.sbox.specs.declared.Direction.{Direction}
 use Rattle.sbox.specs.declared.Direction.the-variants.{Encrypt, Decrypt}
 use Rattle.sbox.specs.Sbox.{enterData, enterMask, newByte, newMask, recordOf, substituted, substitutedWithPoints}
 use Rattle.cipher.specs.Block.{blockOf}
-use Rattle.salcivorn.specs.Entries.{noDirection, way, notLent, sboxOf, sboxPointsOf, directedBlockOf}
+use Rattle.salcivorn.specs.Entries.{noDirection, way, wrongSboxLengths, sboxChecks, sboxOf, sboxPointsOf, directedBlockOf}
 
 -- ---- the direction
 
@@ -82,130 +85,120 @@ module _ {L : Type 0} (rest : List (ℕ × Bool)) (lent give : L) (y : ℕ × �
       let p = all-passed {X = Answer (Unit {0}) × L} (λ r. (refused r, lent)) (done tt, give) y rest (byteAndMask v) (a, b) e (ap byteAndMask f) in
       (p .1, ap numbered (p .0))
 
--- both forms of the call begin alike
-module _ {L : Type 0} (n d m r : ℕ) (rest : List (ℕ × Bool)) (lent : L) (give : Answer (Unit {0}) × L) (k : Check) (e : failed k ≡ noDirection n) where
+-- both forms of the call begin alike: what the first checks found is given with its number, or the rest goes on
+module _ {L : Type 0} (front rest : List (ℕ × Bool)) (lent : L) (give : Answer (Unit {0}) × L) (v : Outcome) (e : outcome v ≡ first front refused (done tt)) where
   abbrev whole : ℕ × L
-  whole = numbered (first ((13, noDirection n) ∷ (6, notLent d m r) ∷ rest) (λ x. (refused x, lent)) give)
+  whole = numbered (first (front ++ rest) (λ x. (refused x, lent)) give)
 
-  front-13 : k ≡ Failed → (13, lent) ≡ whole
-  front-13 f = numbered-stop 13 (noDirection n) k ((6, notLent d m r) ∷ rest) lent give e refl f
+  front-refused : (r : Refusal) (num : ℕ) → v ≡ outcomes.Refused r → num ≡ answerNumber (outcome v) → (num, lent) ≡ whole
+  front-refused r num f q =
+      ap (λ (n : ℕ). (n, lent)) (q ∙ ap (λ (a : Outcome). answerNumber (outcome a)) f)
+      ∙ ap numbered (front-failed rest (λ x. (refused x, lent)) give (outcome v) tt front r e (ap outcome f))
 
-  module _ (p : k ≡ Passed) (j : Check) (h : failed j ≡ notLent d m r) where
-    front-6 : j ≡ Failed → (6, lent) ≡ whole
-    front-6 f = numbered-on 13 (noDirection n) k ((6, notLent d m r) ∷ rest) lent give e (6, lent) p (numbered-stop 6 (notLent d m r) j rest lent give h refl f)
+  front-on : (x : ℕ × L) → v ≡ outcomes.Done → x ≡ numbered (first rest (λ x. (refused x, lent)) give) → x ≡ whole
+  front-on x f h = h ∙ ap numbered (front-passed rest (λ x. (refused x, lent)) give (outcome v) tt front (first rest (λ x. (refused x, lent)) give) tt e (ap outcome f) refl)
 
-    front-on : (x : ℕ × L) → j ≡ Passed → x ≡ numbered (first rest (λ x. (refused x, lent)) give) → x ≡ whole
-    front-on x q g = numbered-on 13 (noDirection n) k ((6, notLent d m r) ∷ rest) lent give e x p (numbered-on 6 (notLent d m r) j rest lent give h x q g)
+-- what the first checks have shown where they passed
+module _ (n d m r : ℕ) (v : Outcome) (e : outcome v ≡ first (sboxChecks n d m r) refused (done tt)) (f : v ≡ outcomes.Done) where
+  lent-so : (d ≡ 1) × ((m ≡ 1) × (r ≡ 3))
+  unfolding sboxChecks wrongSboxLengths
+  lent-so =
+      let p13 = passes-first 13 (noDirection n) ((6, wrongSboxLengths d m r) ∷ []) (call-passes (sboxChecks n d m r) v e f) in
+      let a = neither (isNot 1 d) (isNot 1 m || isNot 3 r) (passes-first 6 (wrongSboxLengths d m r) [] (p13 .1) .0) in
+      let b = neither (isNot 1 m) (isNot 3 r) (a .1) in
+      (passed-is 1 d Passed (sym (a .0)) refl, (passed-is 1 m Passed (sym (b .0)) refl, passed-is 3 r Passed (sym (b .1)) refl))
 
--- what a check of the loans that passed has shown
-lent-so : (d m r : ℕ) (j : Check) → failed j ≡ notLent d m r → j ≡ Passed → (d ≡ 1) × ((m ≡ 1) × (r ≡ 3))
-unfolding notLent
-lent-so d m r j h q =
-    let a = neither (isNot 1 d) (isNot 1 m || isNot 3 r) (sym h ∙ ap failed q) in
-    let b = neither (isNot 1 m) (isNot 3 r) (a .1) in
-    (passed-is 1 d Passed (sym (a .0)) refl, (passed-is 1 m Passed (sym (b .0)) refl, passed-is 3 r Passed (sym (b .1)) refl))
-
-module _ (d m r : ℕ) (j : Check) (h : failed j ≡ notLent d m r) (q : j ≡ Passed) where
   pub data-there : 0 < d
-  data-there = omega (arith, lent-so d m r j h q)
+  data-there = omega (arith, lent-so)
 
   pub mask-there : 0 < m
-  mask-there = omega (arith, lent-so d m r j h q)
+  mask-there = omega (arith, lent-so)
 
-  pub record-there : (i : ℕ) → i < 3 → i < r
-  record-there i g = omega (arith, lent-so d m r j h q)
+  pub record-three : r ≡ 3
+  record-three = lent-so .1 .1
 
 -- a byte lent as one byte, rewritten
 one : (l : List ℕ) (a b : ℕ) → length l ≡ 1 → a ≡ b → set l 0 a ≡ b ∷ []
 one l a b h e = rw (eta 1 l h, e) refl
 
-module _ (n : ℕ) (d m r : List ℕ) (k : Check) (e : failed k ≡ noDirection n) where
-  pub sbox-13 : k ≡ Failed → (13, (d, m)) ≡ sboxOf n d m r
+module _ (n : ℕ) (d m r : List ℕ) (u : Outcome) (e : outcome u ≡ first (sboxChecks n (length d) (length m) (length r)) refused (done tt)) where
+  pub sbox-stopped : (a : Refusal) (num : ℕ) → u ≡ outcomes.Refused a → num ≡ answerNumber (outcome u) → (num, (d, m)) ≡ sboxOf n d m r
   unfolding sboxOf
-  sbox-13 f = front-13 n (length d) (length m) (length r) _ (d, m) _ k e f
+  sbox-stopped a num f q = front-refused (sboxChecks n (length d) (length m) (length r)) _ (d, m) _ u e a num f q
 
-  pub points-13 : (points : List ℕ) → k ≡ Failed → (13, (d, (m, points))) ≡ sboxPointsOf n d m r points
+  pub points-stopped : (points : List ℕ) (a : Refusal) (num : ℕ) → u ≡ outcomes.Refused a → num ≡ answerNumber (outcome u) → (num, (d, (m, points))) ≡ sboxPointsOf n d m r points
   unfolding sboxPointsOf
-  points-13 points f = front-13 n (length d) (length m) (length r) _ (d, (m, points)) _ k e f
+  points-stopped points a num f q = front-refused (sboxChecks n (length d) (length m) (length r)) _ (d, (m, points)) _ u e a num f q
 
-  module _ (p : k ≡ Passed) (j : Check) (h : failed j ≡ notLent (length d) (length m) (length r)) where
-    pub sbox-6 : j ≡ Failed → (6, (d, m)) ≡ sboxOf n d m r
+  module _ (q : u ≡ outcomes.Done) (dir : Direction) (w : dir ≡ way n) (ρ : Record) (ρ-is : ρ ≡ recordOf r) (v : Masked) where
+    abbrev x : ℕ
+    x = getD d 0 0
+
+    abbrev y : ℕ
+    y = getD m 0 0
+
+    -- the S-box's own checks and answers
+    abbrev rest : List (ℕ × Bool)
+    rest = (2, above 3 (recordOf r .r)) ∷ []
+
+    sbox-left : (z : ℕ × (List ℕ × List ℕ)) → z ≡ numbered (first rest (λ a. (refused a, (d, m))) (done tt, (newByte (way n) x y (recordOf r) ∷ [], newMask (way n) (recordOf r) ∷ []))) → z ≡ sboxOf n d m r
     unfolding sboxOf
-    sbox-6 f = front-6 n (length d) (length m) (length r) _ (d, m) _ k e p j h f
+    sbox-left z g = front-on (sboxChecks n (length d) (length m) (length r)) rest (d, m) _ u e z q g
 
-    pub points-6 : (points : List ℕ) → j ≡ Failed → (6, (d, (m, points))) ≡ sboxPointsOf n d m r points
-    unfolding sboxPointsOf
-    points-6 points f = front-6 n (length d) (length m) (length r) _ (d, (m, points)) _ k e p j h f
+    module _ (f : byteAndMask v ≡ substituted dir x y ρ) where
+      f′ : byteAndMask v ≡ substituted (way n) x y (recordOf r)
+      f′ = f ∙ ap₂ (λ (a : Direction) (b : Record). substituted a x y b) w ρ-is
 
-    module _ (q : j ≡ Passed) (dir : Direction) (w : dir ≡ way n) (v : Masked) where
-      abbrev x : ℕ
-      x = getD d 0 0
+      pub sbox-refused : (a : Refusal) (num : ℕ) → v ≡ Refused a → num ≡ answerNumber (byteAndMask v) → (num, (d, m)) ≡ sboxOf n d m r
+      sbox-refused a num g i = sbox-left (num, (d, m)) (box-refused rest (d, m) _ (newByte (way n) x y (recordOf r), newMask (way n) (recordOf r)) v f′ a num g i)
 
-      abbrev y : ℕ
-      y = getD m 0 0
+      pub sbox-done : (a b : ℕ) → v ≡ Byte a b → (0, (set d 0 a, set m 0 b)) ≡ sboxOf n d m r
+      sbox-done a b g =
+          let o = box-done {L = List ℕ × List ℕ} rest (d, m) (newByte (way n) x y (recordOf r) ∷ [], newMask (way n) (recordOf r) ∷ []) (newByte (way n) x y (recordOf r), newMask (way n) (recordOf r)) v f′ a b g in
+          let l = lent-so n (length d) (length m) (length r) u e q in
+          ap₂ (λ (u t : List ℕ). (0, (u, t))) (one d a _ (l .0) (ap (λ (c : ℕ × ℕ). c .0) (o .0))) (one m b _ (l .1 .0) (ap (λ (c : ℕ × ℕ). c .1) (o .0)))
+          ∙ sbox-left _ (o .1)
 
-      -- the S-box's own checks and answers
-      abbrev rest : List (ℕ × Bool)
-      rest = (2, above 3 (recordOf r .r)) ∷ []
+    -- the same with points: their own check comes first, and the buffer is a part of what is left
+    module _ (points after : List ℕ) where
+      abbrev pointsRest : List (ℕ × Bool)
+      pointsRest = (3, isNot 62 (length points)) ∷ rest
 
-      sbox-left : (z : ℕ × (List ℕ × List ℕ)) → z ≡ numbered (first rest (λ a. (refused a, (d, m))) (done tt, (newByte (way n) x y (recordOf r) ∷ [], newMask (way n) (recordOf r) ∷ []))) → z ≡ sboxOf n d m r
-      unfolding sboxOf
-      sbox-left z g = front-on n (length d) (length m) (length r) rest (d, m) _ k e p j h z q g
+      abbrev filled : List ℕ
+      filled = recordPoints (enterData (way n) x) (enterMask (way n) y) (recordOf r)
 
-      module _ (f : byteAndMask v ≡ substituted dir x y (recordOf r)) where
-        f′ : byteAndMask v ≡ substituted (way n) x y (recordOf r)
-        f′ = f ∙ ap (λ (a : Direction). substituted a x y (recordOf r)) w
+      abbrev bytes : ℕ × ℕ
+      bytes = (newByte (way n) x y (recordOf r), newMask (way n) (recordOf r))
 
-        pub sbox-refused : (a : Refusal) (num : ℕ) → v ≡ Refused a → num ≡ answerNumber (byteAndMask v) → (num, (d, m)) ≡ sboxOf n d m r
-        sbox-refused a num g i = sbox-left (num, (d, m)) (box-refused rest (d, m) _ (newByte (way n) x y (recordOf r), newMask (way n) (recordOf r)) v f′ a num g i)
+      abbrev given : List ℕ × (List ℕ × List ℕ)
+      given = (bytes .0 ∷ [], (bytes .1 ∷ [], filled))
 
-        pub sbox-done : (a b : ℕ) → v ≡ Byte a b → (0, (set d 0 a, set m 0 b)) ≡ sboxOf n d m r
-        sbox-done a b g =
-            let o = box-done {L = List ℕ × List ℕ} rest (d, m) (newByte (way n) x y (recordOf r) ∷ [], newMask (way n) (recordOf r) ∷ []) (newByte (way n) x y (recordOf r), newMask (way n) (recordOf r)) v f′ a b g in
-            let l = lent-so (length d) (length m) (length r) j h q in
-            ap₂ (λ (u t : List ℕ). (0, (u, t))) (one d a _ (l .0) (ap (λ (c : ℕ × ℕ). c .0) (o .0))) (one m b _ (l .1 .0) (ap (λ (c : ℕ × ℕ). c .1) (o .0)))
-            ∙ sbox-left _ (o .1)
+      points-left : (z : ℕ × (List ℕ × (List ℕ × List ℕ))) → z ≡ numbered (first pointsRest (λ a. (refused a, (d, (m, points)))) (done tt, given)) → z ≡ sboxPointsOf n d m r points
+      unfolding sboxPointsOf
+      points-left z g = front-on (sboxChecks n (length d) (length m) (length r)) pointsRest (d, (m, points)) _ u e z q g
 
-      -- the same with points: their own check comes first, and the buffer is a part of what is left
-      module _ (points after : List ℕ) where
-        abbrev pointsRest : List (ℕ × Bool)
-        pointsRest = (3, isNot 62 (length points)) ∷ rest
+      module _ (f : (byteAndMask v, after) ≡ substitutedWithPoints dir x y ρ points) where
+        f″ : _≡_ {A = Answer (ℕ × ℕ) × List ℕ} (byteAndMask v, after) (first pointsRest (λ a. (refused a, points)) (done bytes, filled))
+        f″ = f ∙ ap₂ (λ (a : Direction) (b : Record). substitutedWithPoints a x y b points) w ρ-is
 
-        abbrev filled : List ℕ
-        filled = recordPoints (enterData (way n) x) (enterMask (way n) y) (recordOf r)
+        answered : byteAndMask v ≡ first pointsRest refused (done bytes)
+        answered = ap (λ (a : Answer (ℕ × ℕ) × List ℕ). a .0) f″ ∙ first-part (λ (a : Answer (ℕ × ℕ) × List ℕ). a .0) pointsRest (λ a. (refused a, points)) (done bytes, filled)
 
-        abbrev bytes : ℕ × ℕ
-        bytes = (newByte (way n) x y (recordOf r), newMask (way n) (recordOf r))
+        buffered : after ≡ first pointsRest (λ _. points) filled
+        buffered = ap (λ (a : Answer (ℕ × ℕ) × List ℕ). a .1) f″ ∙ first-part (λ (a : Answer (ℕ × ℕ) × List ℕ). a .1) pointsRest (λ a. (refused a, points)) (done bytes, filled)
 
-        abbrev given : List ℕ × (List ℕ × List ℕ)
-        given = (bytes .0 ∷ [], (bytes .1 ∷ [], filled))
+        pub points-refused : (a : Refusal) (num : ℕ) → v ≡ Refused a → num ≡ answerNumber (byteAndMask v) → (num, (d, (m, after))) ≡ sboxPointsOf n d m r points
+        points-refused a num g i =
+            let same : after ≡ points = buffered ∙ sym (one-failed (λ _. points) filled bytes pointsRest (byteAndMask v) a answered (ap byteAndMask g)) in
+            ap (λ (l : List ℕ). (num, (d, (m, l)))) same
+            ∙ points-left (num, (d, (m, points))) (box-refused {L = List ℕ × (List ℕ × List ℕ)} pointsRest (d, (m, points)) given bytes v answered a num g i)
 
-        points-left : (z : ℕ × (List ℕ × (List ℕ × List ℕ))) → z ≡ numbered (first pointsRest (λ a. (refused a, (d, (m, points)))) (done tt, given)) → z ≡ sboxPointsOf n d m r points
-        unfolding sboxPointsOf
-        points-left z g = front-on n (length d) (length m) (length r) pointsRest (d, (m, points)) _ k e p j h z q g
-
-        module _ (f : (byteAndMask v, after) ≡ substitutedWithPoints dir x y (recordOf r) points) where
-          f″ : _≡_ {A = Answer (ℕ × ℕ) × List ℕ} (byteAndMask v, after) (first pointsRest (λ a. (refused a, points)) (done bytes, filled))
-          f″ = f ∙ ap (λ (a : Direction). substitutedWithPoints a x y (recordOf r) points) w
-
-          answered : byteAndMask v ≡ first pointsRest refused (done bytes)
-          answered = ap (λ (a : Answer (ℕ × ℕ) × List ℕ). a .0) f″ ∙ first-part (λ (a : Answer (ℕ × ℕ) × List ℕ). a .0) pointsRest (λ a. (refused a, points)) (done bytes, filled)
-
-          buffered : after ≡ first pointsRest (λ _. points) filled
-          buffered = ap (λ (a : Answer (ℕ × ℕ) × List ℕ). a .1) f″ ∙ first-part (λ (a : Answer (ℕ × ℕ) × List ℕ). a .1) pointsRest (λ a. (refused a, points)) (done bytes, filled)
-
-          pub points-refused : (a : Refusal) (num : ℕ) → v ≡ Refused a → num ≡ answerNumber (byteAndMask v) → (num, (d, (m, after))) ≡ sboxPointsOf n d m r points
-          points-refused a num g i =
-              let same : after ≡ points = buffered ∙ sym (one-failed (λ _. points) filled bytes pointsRest (byteAndMask v) a answered (ap byteAndMask g)) in
-              ap (λ (l : List ℕ). (num, (d, (m, l)))) same
-              ∙ points-left (num, (d, (m, points))) (box-refused {L = List ℕ × (List ℕ × List ℕ)} pointsRest (d, (m, points)) given bytes v answered a num g i)
-
-          pub points-done : (a b : ℕ) → v ≡ Byte a b → (0, (set d 0 a, (set m 0 b, after))) ≡ sboxPointsOf n d m r points
-          points-done a b g =
-              let o = box-done {L = List ℕ × (List ℕ × List ℕ)} pointsRest (d, (m, points)) given bytes v answered a b g in
-              let l = lent-so (length d) (length m) (length r) j h q in
-              let new-d = one d a (bytes .0) (l .0) (ap (λ (c : ℕ × ℕ). c .0) (o .0)) in
-              let new-m = one m b (bytes .1) (l .1 .0) (ap (λ (c : ℕ × ℕ). c .1) (o .0)) in
-              let new-p : after ≡ filled = buffered ∙ sym (all-passed (λ _. points) filled bytes pointsRest (byteAndMask v) (a, b) answered (ap byteAndMask g) .0) in
-              ap₂ (λ (u : List ℕ) (t : List ℕ × List ℕ). (0, (u, t))) new-d (ap₂ (λ (u t : List ℕ). (u, t)) new-m new-p)
-              ∙ points-left _ (o .1)
+        pub points-done : (a b : ℕ) → v ≡ Byte a b → (0, (set d 0 a, (set m 0 b, after))) ≡ sboxPointsOf n d m r points
+        points-done a b g =
+            let o = box-done {L = List ℕ × (List ℕ × List ℕ)} pointsRest (d, (m, points)) given bytes v answered a b g in
+            let l = lent-so n (length d) (length m) (length r) u e q in
+            let new-d = one d a (bytes .0) (l .0) (ap (λ (c : ℕ × ℕ). c .0) (o .0)) in
+            let new-m = one m b (bytes .1) (l .1 .0) (ap (λ (c : ℕ × ℕ). c .1) (o .0)) in
+            let new-p : after ≡ filled = buffered ∙ sym (all-passed (λ _. points) filled bytes pointsRest (byteAndMask v) (a, b) answered (ap byteAndMask g) .0) in
+            ap₂ (λ (u : List ℕ) (t : List ℕ × List ℕ). (0, (u, t))) new-d (ap₂ (λ (u t : List ℕ). (u, t)) new-m new-p)
+            ∙ points-left _ (o .1)

@@ -2,11 +2,15 @@
 ghost use mathlib.Core.Path.{_≡_};
 ghost use Prim.Native.Nat.{_<_};
 ghost use Rattle.refusal.specs.Refusal.{failed};
-ghost use Rattle.refusal.specs.Answer.{answerNumber};
+ghost use lib.ListN.{length};
+ghost use Rattle.refusal.specs.Answer.{done, refused, first, answerNumber, outcome};
 ghost use Rattle.inversion.specs.Answers.{byteAndMask};
-ghost use Rattle.salcivorn.specs.Entries.{noDirection, way, notLent, sboxOf, sboxPointsOf, expandOf, directedBlockOf};
+ghost use Rattle.sbox.specs.Sbox.{recordOf};
+ghost use Rattle.salcivorn.specs.Entries.{noDirection, way, wrongSboxLengths, sboxChecks, sboxOf, sboxPointsOf, expandOf, directedBlockOf};
 use inversion::Masked;
 use refusal::Check;
+use refusal::Outcome;
+use refusal::Refusal;
 use sbox::Direction;
 use tower::Record;
 
@@ -41,8 +45,8 @@ fn direction_of(direction: u32) -> Direction
 }
 
 // 6
-fn check_lent(data: usize, mask: usize, record: usize) -> Check
-    ensures { λ c. ⌜ failed c ≡ notLent «data» mask «record» ⌝ }
+fn check_sbox_lengths(data: usize, mask: usize, record: usize) -> Check
+    ensures { λ c. ⌜ failed c ≡ wrongSboxLengths «data» mask «record» ⌝ }
 {
     let Check::Passed = refusal::check_length(data, 1) else {
         return Check::Failed;
@@ -51,6 +55,31 @@ fn check_lent(data: usize, mask: usize, record: usize) -> Check
         return Check::Failed;
     };
     refusal::check_length(record, 3)
+}
+
+// 13 and 6, with which both forms of the S-box begin.
+fn check_sbox(direction: u32, data: usize, mask: usize, record: usize) -> Outcome
+    ensures { λ v. ⌜ outcome v ≡ first (sboxChecks direction «data» mask «record») refused (done tt) ⌝ }
+{
+    let Check::Passed = check_direction(direction) else {
+        return Outcome::Refused(Refusal::Direction(13));
+    };
+    let Check::Passed = check_sbox_lengths(data, mask, record) else {
+        return Outcome::Refused(Refusal::Buffer(6));
+    };
+    Outcome::Done
+}
+
+// The record as the S-box takes it.
+fn record_of(record: &[u8]) -> Record
+    requires { ⌜ length (now «record») ≡ 3 ⌝ }
+    ensures { λ ρ. ⌜ ρ ≡ recordOf (now («record» .entry)) ⌝ }
+{
+    Record {
+        qt: record[0],
+        s: record[1],
+        r: record[2],
+    }
 }
 
 #[no_mangle]
@@ -62,17 +91,11 @@ pub extern "C" fn salcivorn_sbox(
 ) -> u32
     ensures { λ n. ⌜ (n, (now («data» .exit), now (mask .exit))) ≡ sboxOf direction (now («data» .entry)) (now (mask .entry)) (now («record» .entry)) ⌝ }
 {
-    let Check::Passed = check_direction(direction) else {
-        return 13;
+    let checked = check_sbox(direction, data.len(), mask.len(), record.len());
+    let Outcome::Done = checked else {
+        return refusal::outcome_number(checked);
     };
-    let Check::Passed = check_lent(data.len(), mask.len(), record.len()) else {
-        return 6;
-    };
-    let parts = Record {
-        qt: record[0],
-        s: record[1],
-        r: record[2],
-    };
+    let parts = record_of(record);
     let answer = sbox::substitute(direction_of(direction), data[0], mask[0], parts);
     let Masked::Byte(value, outgoing) = answer else {
         return masked_number(answer);
@@ -92,17 +115,11 @@ pub extern "C" fn salcivorn_sbox_points(
 ) -> u32
     ensures { λ n. ⌜ (n, (now («data» .exit), (now (mask .exit), now (points .exit)))) ≡ sboxPointsOf direction (now («data» .entry)) (now (mask .entry)) (now («record» .entry)) (now (points .entry)) ⌝ }
 {
-    let Check::Passed = check_direction(direction) else {
-        return 13;
+    let checked = check_sbox(direction, data.len(), mask.len(), record.len());
+    let Outcome::Done = checked else {
+        return refusal::outcome_number(checked);
     };
-    let Check::Passed = check_lent(data.len(), mask.len(), record.len()) else {
-        return 6;
-    };
-    let parts = Record {
-        qt: record[0],
-        s: record[1],
-        r: record[2],
-    };
+    let parts = record_of(record);
     let answer = sbox::substitute_points(direction_of(direction), data[0], mask[0], parts, points);
     let Masked::Byte(value, outgoing) = answer else {
         return masked_number(answer);

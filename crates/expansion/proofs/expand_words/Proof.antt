@@ -28,6 +28,9 @@ slice-aggregate-next-word c = simp length-take (omega arith)
 next-word-requires : tie.Need-next-word-requires Inv-loop μ-loop
 next-word-requires c κs = (omega arith, (omega arith, simp length-take (omega arith)))
 
+slice-aggregate-copy : tie.Need-slice-aggregate-copy Inv-loop μ-loop
+slice-aggregate-copy c = search needs
+
 add-copy : tie.Need-add-copy Inv-loop μ-loop
 add-copy c = omega arith
 
@@ -39,9 +42,6 @@ part-copy-start c = omega arith
 
 part-copy-end : tie.Need-part-copy-end Inv-loop μ-loop
 part-copy-end c = omega arith
-
-slice-aggregate-copy : tie.Need-slice-aggregate-copy Inv-loop μ-loop
-slice-aggregate-copy c = search needs
 
 copy-requires : tie.Need-copy-requires Inv-loop μ-loop
 copy-requires c κs = simp (length-take, length-drop) (omega arith)
@@ -55,7 +55,7 @@ loop-less c = omega arith
 loop-again : tie.Need-loop-again Inv-loop μ-loop
 loop-again c =
     let made = c .before .before .before .before .before in
-    grew-more _ _ _ _ (made .next-word .result) _ _ (made .before .before .before .loop .inv) (omega arith) (made .next-word .ensures) (search needs) (c .before .before .copy .ensures)
+    grew-more _ _ _ _ (made .next-word .result) _ _ (made .before .before .before .loop .inv) (omega arith) (made .next-word .ensures) (search needs) (c .before .before .copy .ensures .1)
 
 same-length : tie.Need-same-length Inv-loop μ-loop
 same-length c = omega arith
@@ -74,11 +74,11 @@ expand-words-spec =
     slice-reshare-prefix-next-word
     slice-aggregate-next-word
     next-word-requires
+    slice-aggregate-copy
     add-copy
     sub-copy
     part-copy-start
     part-copy-end
-    slice-aggregate-copy
     copy-requires
     add-i
     loop-less

@@ -20,7 +20,7 @@ same-length : tie.Need-same-length
 same-length c = search needs
 
 returns : tie.Need-returns
-returns c = key-expanded (c .before .before .before .before .before .before .before .before .before .before .args .nk) (c .before .before .before .before .before .before .before .before .before .before .args .nr) _ _ _ _ (c .before .before .before .before .before .before .before .before .before .before .pre .1 .1 .0) (c .before .before .before .before .before .before .copy .ensures) (c .before .before .expand-words .ensures)
+returns c = key-expanded (c .before .before .before .before .before .before .before .before .before .before .args .nk) (c .before .before .before .before .before .before .before .before .before .before .args .nr) _ _ _ _ (c .before .before .before .before .before .before .before .before .before .before .pre .1 .1 .0) (c .before .before .before .before .before .before .copy .ensures .1) (c .before .before .expand-words .ensures)
 
 pub key-expansion-spec : {M : Type 1} → statement M
 key-expansion-spec =

@@ -1,9 +1,9 @@
--- `expansion::rotated` meets its contract: by its definition. Assumes nothing.
+-- `expansion::rot_word` meets its contract: by its definition. Assumes nothing.
 use mathlib.Core.Path.{refl}
 use borrow.Author.Needs.{needs}
 use Rattle.fips197.specs.Cipher.{rotWord}
-use Rattle.expansion.proofs.rotated.Statement.{statement}
-use Rattle.expansion.proofs.rotated.Tie as tie
+use Rattle.expansion.proofs.rot_word.Statement.{statement}
+use Rattle.expansion.proofs.rot_word.Tie as tie
 
 array-read-t5 : tie.Need-array-read-t5
 array-read-t5 c = search needs
@@ -21,6 +21,6 @@ returns : tie.Need-returns
 unfolding rotWord
 returns c = refl
 
-pub rotated-spec : {M : Type 1} → statement M
-rotated-spec =
+pub rot-word-spec : {M : Type 1} → statement M
+rot-word-spec =
     tie.close (tie.spec array-read-t5 array-read-t8 array-read-t11 array-read-t14 returns)

@@ -1,8 +1,8 @@
--- `expansion::substituted` meets its contract: from the four bytes substituted. Assumes nothing.
+-- `expansion::sub_word` meets its contract: from the four bytes substituted. Assumes nothing.
 use borrow.Author.Needs.{needs}
 use Rattle.fips197.specs.Cipher.{subWord}
-use Rattle.expansion.proofs.substituted.Statement.{statement}
-use Rattle.expansion.proofs.substituted.Tie as tie
+use Rattle.expansion.proofs.sub_word.Statement.{statement}
+use Rattle.expansion.proofs.sub_word.Tie as tie
 
 array-read-bare : tie.Need-array-read-bare
 array-read-bare c = search needs
@@ -32,8 +32,8 @@ returns : tie.Need-returns
 unfolding subWord
 returns c = cc
 
-pub substituted-spec : {M : Type 1} → statement M
-substituted-spec =
+pub sub-word-spec : {M : Type 1} → statement M
+sub-word-spec =
     tie.close
     (tie.spec
     array-read-bare

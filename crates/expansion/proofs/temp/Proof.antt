@@ -10,11 +10,11 @@ use Rattle.expansion.proofs.temp.Tie as tie
 rem-if1 : tie.Need-rem-if1
 rem-if1 c = search needs
 
-rotated-requires : tie.Need-rotated-requires
-rotated-requires c κs = search needs
+rot-word-requires : tie.Need-rot-word-requires
+rot-word-requires c κs = search needs
 
-substituted-requires : tie.Need-substituted-requires
-substituted-requires c κs = search needs
+sub-word-requires : tie.Need-sub-word-requires
+sub-word-requires c κs = search needs
 
 div-round-constant : tie.Need-div-round-constant
 div-round-constant c = search needs
@@ -31,8 +31,8 @@ returns c = temp-turn _ _ _ _ (c .before .before .before .before .if1 .taken) (c
 rem-if3 : tie.Need-rem-if3
 rem-if3 c = search needs
 
-substituted-requires-2 : tie.Need-substituted-requires-2
-substituted-requires-2 c κs = search needs
+sub-word-requires-2 : tie.Need-sub-word-requires-2
+sub-word-requires-2 c κs = search needs
 
 returns-2 : tie.Need-returns-2
 returns-2 c = temp-again _ _ _ _ (c .before .before .before .if1 .left) (omega arith) (c .before .if3 .taken) (cc)
@@ -49,13 +49,13 @@ temp-spec =
     tie.close
     (tie.spec
     rem-if1
-    rotated-requires
-    substituted-requires
+    rot-word-requires
+    sub-word-requires
     div-round-constant
     round-constant-requires
     sum-requires
     returns
     rem-if3
-    substituted-requires-2
+    sub-word-requires-2
     returns-2
     returns-3)

@@ -1,9 +1,9 @@
--- `salcivorn::check_lent` meets its contract: from the answers of the three checks. Assumes nothing.
+-- `salcivorn::check_sbox_lengths` meets its contract: from the answers of the three checks. Assumes nothing.
 use borrow.Author.Needs.{needs}
 use Rattle.refusal.proofs.First.{either-first, either-second}
-use Rattle.salcivorn.specs.Entries.{notLent}
-use Rattle.salcivorn.proofs.check_lent.Statement.{statement}
-use Rattle.salcivorn.proofs.check_lent.Tie as tie
+use Rattle.salcivorn.specs.Entries.{wrongSboxLengths}
+use Rattle.salcivorn.proofs.check_sbox_lengths.Statement.{statement}
+use Rattle.salcivorn.proofs.check_sbox_lengths.Tie as tie
 
 check-length-requires : tie.Need-check-length-requires
 check-length-requires c κs = search needs
@@ -15,7 +15,7 @@ enum-told-2 : tie.Need-enum-told-2
 enum-told-2 c = search needs
 
 returns : tie.Need-returns
-unfolding notLent
+unfolding wrongSboxLengths
 returns c = search either-first
 
 check-length-requires-2 : tie.Need-check-length-requires-2
@@ -28,18 +28,18 @@ enum-told-4 : tie.Need-enum-told-4
 enum-told-4 c = search needs
 
 returns-2 : tie.Need-returns-2
-unfolding notLent
+unfolding wrongSboxLengths
 returns-2 c = search (either-second, either-first)
 
 check-length-requires-3 : tie.Need-check-length-requires-3
 check-length-requires-3 c κs = search needs
 
 returns-3 : tie.Need-returns-3
-unfolding notLent
+unfolding wrongSboxLengths
 returns-3 c = search either-second
 
-pub check-lent-spec : {M : Type 1} → statement M
-check-lent-spec =
+pub check-sbox-lengths-spec : {M : Type 1} → statement M
+check-sbox-lengths-spec =
     tie.close
     (tie.spec
     check-length-requires

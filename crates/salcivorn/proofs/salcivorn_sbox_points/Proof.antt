@@ -1,12 +1,11 @@
 -- `salcivorn::salcivorn_sbox_points` meets its contract: from the answers of the checks and of the S-box with points. Assumes nothing.
-use native.Mathlib.Omega.{arith}
+use Rattle.salcivorn.proofs.Laws.{data-there, mask-there, record-three, points-stopped, points-refused, points-done}
 use borrow.Author.Needs.{needs}
-use Rattle.salcivorn.proofs.Laws.{data-there, mask-there, record-there, points-13, points-6, points-refused, points-done}
 use Rattle.salcivorn.proofs.salcivorn_sbox_points.Statement.{statement}
 use Rattle.salcivorn.proofs.salcivorn_sbox_points.Tie as tie
 
-check-direction-requires : tie.Need-check-direction-requires
-check-direction-requires c κs = search needs
+check-sbox-requires : tie.Need-check-sbox-requires
+check-sbox-requires c κs = search needs
 
 enum-told : tie.Need-enum-told
 enum-told c = search needs
@@ -14,38 +13,23 @@ enum-told c = search needs
 enum-told-2 : tie.Need-enum-told-2
 enum-told-2 c = search needs
 
+outcome-number-requires : tie.Need-outcome-number-requires
+outcome-number-requires c κs = search needs
+
 returns : tie.Need-returns
-returns c = points-13 _ _ _ _ _ (c .before .before .check-direction .ensures) _ (c .enum-told2 .given .1)
+returns c = points-stopped _ _ _ _ _ (c .before .before .before .check-sbox .ensures) _ _ _ (c .before .enum-told2 .given .1) (c .outcome-number .ensures)
 
-check-lent-requires : tie.Need-check-lent-requires
-check-lent-requires c κs = search needs
-
-enum-told-3 : tie.Need-enum-told-3
-enum-told-3 c = search needs
-
-enum-told-4 : tie.Need-enum-told-4
-enum-told-4 c = search needs
-
-returns-2 : tie.Need-returns-2
-returns-2 c = points-6 _ _ _ _ _ (c .before .before .before .before .before .check-direction .ensures) (c .before .before .before .enum-told .given .1) _ (c .before .before .check-lent .ensures) _ (c .enum-told4 .given .1)
-
-shared-slice-read-substitute-points : tie.Need-shared-slice-read-substitute-points
-shared-slice-read-substitute-points c = record-there _ _ _ _ (c .before .before .before .check-lent .ensures) (c .before .enum-told3 .given .1) 0 (omega arith)
-
-shared-slice-read-t18 : tie.Need-shared-slice-read-t18
-shared-slice-read-t18 c = record-there _ _ _ _ (c .before .before .before .before .check-lent .ensures) (c .before .before .enum-told3 .given .1) 1 (omega arith)
-
-shared-slice-read-substitute-points-2 : tie.Need-shared-slice-read-substitute-points-2
-shared-slice-read-substitute-points-2 c = record-there _ _ _ _ (c .before .before .before .before .before .check-lent .ensures) (c .before .before .before .enum-told3 .given .1) 2 (omega arith)
+record-of-requires : tie.Need-record-of-requires
+record-of-requires c κs = record-three _ _ _ _ _ (c .before .before .check-sbox .ensures) (c .enum-told .given .1)
 
 direction-of-requires : tie.Need-direction-of-requires
 direction-of-requires c κs = search needs
 
 slice-read-substitute-points : tie.Need-slice-read-substitute-points
-slice-read-substitute-points c = data-there _ _ _ _ (c .before .before .before .before .before .before .before .check-lent .ensures) (c .before .before .before .before .before .enum-told3 .given .1)
+slice-read-substitute-points c = data-there _ _ _ _ _ (c .before .before .before .before .before .check-sbox .ensures) (c .before .before .before .enum-told .given .1)
 
 slice-read-substitute-points-2 : tie.Need-slice-read-substitute-points-2
-slice-read-substitute-points-2 c = mask-there _ _ _ _ (c .before .before .before .before .before .before .before .before .check-lent .ensures) (c .before .before .before .before .before .before .enum-told3 .given .1)
+slice-read-substitute-points-2 c = mask-there _ _ _ _ _ (c .before .before .before .before .before .before .check-sbox .ensures) (c .before .before .before .before .enum-told .given .1)
 
 substitute-points-requires : tie.Need-substitute-points-requires
 substitute-points-requires c κs = search needs
@@ -53,8 +37,8 @@ substitute-points-requires c κs = search needs
 enum-known-answer : tie.Need-enum-known-answer
 enum-known-answer c = search needs
 
-enum-told-5 : tie.Need-enum-told-5
-enum-told-5 c = search needs
+enum-told-3 : tie.Need-enum-told-3
+enum-told-3 c = search needs
 
 masked-number-requires : tie.Need-masked-number-requires
 masked-number-requires c κs = search needs
@@ -62,14 +46,14 @@ masked-number-requires c κs = search needs
 same-length : tie.Need-same-length
 same-length c = search needs
 
-returns-3 : tie.Need-returns-3
-returns-3 c = points-refused _ _ _ _ _ (c .before .before .before .before .before .before .before .before .before .before .before .before .before .before .before .before .before .before .check-direction .ensures) (c .before .before .before .before .before .before .before .before .before .before .before .before .before .before .before .before .enum-told .given .1) _ (c .before .before .before .before .before .before .before .before .before .before .before .before .before .before .before .check-lent .ensures) (c .before .before .before .before .before .before .before .before .before .before .before .before .before .enum-told3 .given .1) _ (c .before .before .before .before .before .before .before .before .before .direction-of .ensures) _ _ _ (c .before .before .before .before .before .substitute-points .ensures) _ _ (c .before .enum-told5 .given .1) (c .masked-number .ensures)
+returns-2 : tie.Need-returns-2
+returns-2 c = points-refused _ _ _ _ _ (c .before .before .before .before .before .before .before .before .before .before .before .before .before .check-sbox .ensures) (c .before .before .before .before .before .before .before .before .before .before .before .enum-told .given .1) _ (c .before .before .before .before .before .before .before .before .before .direction-of .ensures) _ (c .before .before .before .before .before .before .before .before .before .before .record-of .ensures) _ _ _ (c .before .before .before .before .before .substitute-points .ensures) _ _ (c .before .enum-told3 .given .1) (c .masked-number .ensures)
 
 slice-write-data : tie.Need-slice-write-data
-slice-write-data c = data-there _ _ _ _ (c .before .before .before .before .before .before .before .before .before .before .before .before .before .before .before .check-lent .ensures) (c .before .before .before .before .before .before .before .before .before .before .before .before .before .enum-told3 .given .1)
+slice-write-data c = data-there _ _ _ _ _ (c .before .before .before .before .before .before .before .before .before .before .before .before .before .check-sbox .ensures) (c .before .before .before .before .before .before .before .before .before .before .before .enum-told .given .1)
 
 slice-write-mask : tie.Need-slice-write-mask
-slice-write-mask c = mask-there _ _ _ _ (c .before .before .before .before .before .before .before .before .before .before .before .before .before .before .before .check-lent .ensures) (c .before .before .before .before .before .before .before .before .before .before .before .before .before .enum-told3 .given .1)
+slice-write-mask c = mask-there _ _ _ _ _ (c .before .before .before .before .before .before .before .before .before .before .before .before .before .check-sbox .ensures) (c .before .before .before .before .before .before .before .before .before .before .before .enum-told .given .1)
 
 same-length-2 : tie.Need-same-length-2
 same-length-2 c = search needs
@@ -80,36 +64,31 @@ same-length-3 c = search needs
 same-length-4 : tie.Need-same-length-4
 same-length-4 c = search needs
 
-returns-4 : tie.Need-returns-4
-returns-4 c = points-done _ _ _ _ _ (c .before .before .before .before .before .before .before .before .before .before .before .before .before .before .before .before .before .before .check-direction .ensures) (c .before .before .before .before .before .before .before .before .before .before .before .before .before .before .before .before .enum-told .given .1) _ (c .before .before .before .before .before .before .before .before .before .before .before .before .before .before .before .check-lent .ensures) (c .before .before .before .before .before .before .before .before .before .before .before .before .before .enum-told3 .given .1) _ (c .before .before .before .before .before .before .before .before .before .direction-of .ensures) _ _ _ (c .before .before .before .before .before .substitute-points .ensures) _ _ (c .before .answer .given .1)
+returns-3 : tie.Need-returns-3
+returns-3 c = points-done _ _ _ _ _ (c .before .before .before .before .before .before .before .before .before .before .before .before .before .check-sbox .ensures) (c .before .before .before .before .before .before .before .before .before .before .before .enum-told .given .1) _ (c .before .before .before .before .before .before .before .before .before .direction-of .ensures) _ (c .before .before .before .before .before .before .before .before .before .before .record-of .ensures) _ _ _ (c .before .before .before .before .before .substitute-points .ensures) _ _ (c .before .answer .given .1)
 
 pub salcivorn-sbox-points-spec : {M : Type 1} → statement M
 salcivorn-sbox-points-spec =
     tie.close
     (tie.spec
-    check-direction-requires
+    check-sbox-requires
     enum-told
     enum-told-2
+    outcome-number-requires
     returns
-    check-lent-requires
-    enum-told-3
-    enum-told-4
-    returns-2
-    shared-slice-read-substitute-points
-    shared-slice-read-t18
-    shared-slice-read-substitute-points-2
+    record-of-requires
     direction-of-requires
     slice-read-substitute-points
     slice-read-substitute-points-2
     substitute-points-requires
     enum-known-answer
-    enum-told-5
+    enum-told-3
     masked-number-requires
     same-length
-    returns-3
+    returns-2
     slice-write-data
     slice-write-mask
     same-length-2
     same-length-3
     same-length-4
-    returns-4)
+    returns-3)
