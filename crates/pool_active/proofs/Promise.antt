@@ -11,13 +11,13 @@ use Rattle.refusal.specs.Answer.{passes}
 use Rattle.refusal.proofs.First.{neither, passes-first, passes-both}
 use Rattle.strip.specs.Strip.{ownChecks}
 use Rattle.strip.proofs.Good.{own-short}
-use Rattle.pool_message.specs.Message.{numberBytes, readOf}
+use Rattle.pool_message.specs.Message.{numberBytes, readOf, sequence}
 use Rattle.pool_message.specs.declared.Message.{Message}
 use Rattle.pool_state.specs.declared.State.{State}
 use Rattle.pool_state.specs.State.{stateIn, stateBytes, oneMore, oneTaken, withRole}
 use Rattle.pool_master.specs.Master.{waiting, usedUp, noRoom, noneHeld, isStandby, sending, counts}
 use Rattle.pool_rooms.specs.Rooms.{roomsSize, roomAt, filled, cleared}
-use Rattle.pool_checks.specs.Checks.{notLent, notLentOut, addChecks, takeChecks, isAcknowledgement, acknowledgeChecks, sequence}
+use Rattle.pool_checks.specs.Checks.{notLent, notLentOut, addChecks, takeChecks, isAcknowledgement, acknowledgeChecks}
 use Rattle.pool_active.specs.Calls.{added, handing, handingNone, taken, settle, acknowledged}
 use Rattle.pool_checks.proofs.Admitted.{lent-is, LentOut, lent-out-is}
 

@@ -6,11 +6,12 @@ use lib.ListN.{length}
 use lib.Dec.{eqb}
 use Rattle.refusal.specs.Answer.{Answer, done, refused, first}
 use Rattle.pool_message.specs.Message as message
+use Rattle.pool_message.specs.Message.{sequence}
 use Rattle.pool_state.specs.declared.State.{State}
 use Rattle.pool_state.specs.State.{active, adding, taking, alone, stateIn, stateBytes, oneMore, oneTaken, withRole}
 use Rattle.pool_master.specs.Master.{sending, counts}
 use Rattle.pool_rooms.specs.Rooms.{roomAt, filled, cleared}
-use Rattle.pool_checks.specs.Checks.{addChecks, takeChecks, acknowledgeChecks, sequence}
+use Rattle.pool_checks.specs.Checks.{addChecks, takeChecks, acknowledgeChecks}
 
 -- ---- adding: the strip lies in the room of the next number
 abbrev pub added : State → ℕ → List ℕ → List ℕ → List ℕ × List ℕ

@@ -3,11 +3,11 @@ ghost use mathlib.Core.Path.{_≡_};
 ghost use mathlib.Core.Bool.{true};
 ghost use lib.ListN.{length};
 ghost use Rattle.refusal.specs.Answer.{passes};
-ghost use Rattle.pool_message.specs.Message.{readOf};
+ghost use Rattle.pool_message.specs.Message.{readOf, sequence};
 ghost use Rattle.pool_state.specs.State.{stateIn};
 ghost use Rattle.pool_master.specs.Master.{sending};
 ghost use Rattle.pool_rooms.specs.Rooms.{roomsSize};
-ghost use Rattle.pool_checks.specs.Checks.{addChecks, takeChecks, acknowledgeChecks, sequence};
+ghost use Rattle.pool_checks.specs.Checks.{addChecks, takeChecks, acknowledgeChecks};
 ghost use Rattle.pool_active.specs.Calls.{added, taken, settle, acknowledged};
 use crate::parts;
 use pool_state::State;
@@ -65,7 +65,7 @@ pub fn acknowledge(
     ensures { λ _. ⌜ (now (state .exit), (now (rooms .exit), (now (number .exit), now (strip .exit)))) ≡ acknowledged (now (state .entry)) (now (rooms .entry)) (sequence (readOf (now (acknowledgement .entry)))) (now (strip .entry)) ⌝ }
 {
     let master = pool_state::read(state);
-    let sequence = pool_checks::sequence_of(pool_message::read(acknowledgement));
+    let sequence = pool_message::sequence_of(pool_message::read(acknowledgement));
     if pool_master::counted(master, sequence) {
         settle_state(master, state, rooms, number, strip);
         return;

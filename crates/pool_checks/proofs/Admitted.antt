@@ -4,7 +4,7 @@ use native.Mathlib.Omega.{arith}
 use mathlib.Core.Path.{_≡_, refl, sym, ap, _∙_}
 use mathlib.Core.List.{List, [], _∷_, _++_}
 use mathlib.Core.Bool.{Bool, true, false, _&&_, _||_}
-use lib.ListN.{length}
+use lib.ListN.{length, drop}
 use lib.Dec.{eqb, ltb}
 use borrow.Author.Tests.{ltb-false, eqb-false, lt-ltb, le-ltb, eq-eqb, ne-eqb}
 use Rattle.refusal.specs.Refusal.{refusal, failed}
@@ -16,10 +16,12 @@ use Rattle.refusal.specs.declared.Outcome.{Outcome}
 use Rattle.refusal.specs.declared.Outcome.the-variants.{Done, Refused}
 use Rattle.refusal.proofs.First.{passed-is, first-now, first-skip, first-done, either-first, either-second, neither, front-failed, front-passed}
 use Rattle.strip.specs.Strip.{ownChecks, ownFormOf}
+use Rattle.pool_message.specs.Message.{readOf}
 use Rattle.pool_state.specs.declared.State.{State}
 use Rattle.pool_state.specs.State.{stateIn, gone, neverSent, sentTooMuch, impossible, noState}
 use Rattle.pool_master.specs.Master.{waiting, usedUp, noRoom, noneHeld, isStandby}
 use Rattle.pool_rooms.specs.Rooms.{roomsSize}
+use Rattle.pool_fits.specs.Fits.{notApplied}
 use Rattle.pool_checks.specs.Checks.{notLent, notLentWith, notLentOut, goAloneChecks}
 use Rattle.pool_checks.specs.Inner.{senderOf}
 
@@ -118,6 +120,10 @@ module _ (st : List ℕ) (t : Bool) (a : Bool) (e : t ≡ a) (m : State) (h : m 
 
       pub may-take : l ≡ Passed → _≡_ {A = Answer (Unit {0})} (done tt) (first ((6, (a || isStandby (stateIn st))) ∷ (23, waiting (stateIn st)) ∷ (24, usedUp (stateIn st)) ∷ (15, noneHeld (stateIn st)) ∷ []) refused (done tt))
       may-take g = go-on ((15, noneHeld (stateIn st)) ∷ []) (done tt) (first-skip 15 (noneHeld (stateIn st)) [] refused (done tt) (done tt) (sym (ap failed g) ∙ z ∙ ap noneHeld h) (first-done refused (done tt) (done tt) refl))
+
+-- ---- a message, asked of the state as it was read
+pub asked-of : (st b : List ℕ) (k : Check) (m : State) → failed k ≡ notApplied m (readOf b) (drop 12 b) → m ≡ stateIn st → failed k ≡ notApplied (stateIn st) (readOf b) (drop 12 b)
+asked-of st b k m c h = c ∙ rw h refl
 
 -- ---- going on alone
 module _ (st : List ℕ) (k : Check) (e : failed k ≡ noState st) where

@@ -1,2 +1,1 @@
 pub mod Admitted
-pub mod Fits

@@ -1,18 +1,18 @@
 -- What each call of a pool refuses, in the order of rule 7.9: the numbers, each with whether it applies.
-use Prim.Native.Nat.{ℕ, suc, _-_}
+use Prim.Native.Nat.{ℕ}
 use mathlib.Core.List.{List, [], _∷_, _++_}
-use mathlib.Core.Bool.{Bool, true, false, not, _&&_, _||_}
+use mathlib.Core.Bool.{Bool, true, false, not, _||_}
 use lib.ListN.{drop}
-use lib.Dec.{eqb, ltb}
-use Rattle.refusal.specs.Answer.{passes, isNot}
+use lib.Dec.{ltb}
+use Rattle.refusal.specs.Answer.{isNot}
 use Rattle.strip.specs.Strip.{ownChecks}
 use Rattle.pool_rooms.specs.Rooms.{roomsSize}
 use Rattle.pool_message.specs.Message.{readOf}
 use Rattle.pool_message.specs.declared.Message.{Message}
 use Rattle.pool_message.specs.declared.Message.the-variants.{Adds, Takes, Acknowledges, Unreadable}
-use Rattle.pool_state.specs.declared.State.{State}
-use Rattle.pool_state.specs.State.{standby, stateIn, sent, noState}
+use Rattle.pool_state.specs.State.{standby, stateIn, noState}
 use Rattle.pool_master.specs.Master.{waiting, usedUp, noRoom, noneHeld, isStandby}
+use Rattle.pool_fits.specs.Fits.{notApplied}
 
 -- 6, rule 7.10: state or rooms not lent as they must be; or a further part not of its size; for a strip handed out, its number not as four bytes or the strip not as 676
 unfoldable pub notLent : List ℕ → ℕ → Bool
@@ -48,31 +48,7 @@ isAcknowledgement Unreadable = false
 abbrev pub acknowledgeChecks : List ℕ → ℕ → List ℕ → ℕ → ℕ → List (ℕ × Bool)
 acknowledgeChecks st rooms bytes number strip = (6, notLentOut st rooms number strip) ∷ (16, not (isAcknowledgement (readOf bytes))) ∷ []
 
--- ---- at the standby. Rule 7.8: what a message adds must be of good form, find room and have the next number; what it takes must be the lowest held
-unfoldable pub fits : State → Message → List ℕ → Bool
-fits m (Adds k n) s = passes (ownChecks s) && (ltb (m .added - m .taken) 64 && eqb n (suc (m .added)))
-fits m (Takes k n) s = ltb (m .taken) (m .added) && eqb n (suc (m .taken))
-fits m (Acknowledges k) s = false
-fits m Unreadable s = false
-
-abbrev pub isMessage : Message → Bool
-isMessage (Adds k n) = true
-isMessage (Takes k n) = true
-isMessage (Acknowledges k) = false
-isMessage Unreadable = false
-
-abbrev pub sequence : Message → ℕ
-sequence (Adds k n) = k
-sequence (Takes k n) = k
-sequence (Acknowledges k) = k
-sequence Unreadable = 0
-
--- 16: no standby or one that is alone, no message, one beyond the next, or a next one that does not fit
-unfoldable pub notApplied : State → Message → List ℕ → Bool
-notApplied m x s =
-    isNot standby (m .role) || (not (isMessage x) || (ltb (suc (sent m)) (sequence x) || (eqb (sequence x) (suc (sent m)) && not (fits m x s))))
-
--- the strip of a message is all from its thirteenth byte on
+-- ---- a message at the standby, whose strip is all from the thirteenth byte on
 abbrev pub applyChecks : List ℕ → ℕ → List ℕ → ℕ → List (ℕ × Bool)
 applyChecks st rooms bytes acknowledgement = (6, notLentWith 8 st rooms acknowledgement) ∷ (16, notApplied (stateIn st) (readOf bytes) (drop 12 bytes)) ∷ []
 

@@ -2,14 +2,11 @@
 ghost use mathlib.Core.Path.{_≡_};
 ghost use mathlib.Core.List.{[], _∷_, _++_};
 ghost use mathlib.Core.Bool.{not};
-ghost use lib.ListN.{drop};
 ghost use Rattle.refusal.specs.Refusal.{failed};
 ghost use Rattle.refusal.specs.Answer.{done, refused, first, outcome};
 ghost use Rattle.strip.specs.Strip.{ownChecks};
-ghost use Rattle.pool_message.specs.Message.{readOf};
-ghost use Rattle.pool_message.specs.declared.Message.the-variants as sort;
 ghost use Rattle.pool_master.specs.Master.{noRoom};
-ghost use Rattle.pool_checks.specs.Checks.{notLent, notLentWith, notLentOut, addChecks, takeChecks, outstandingChecks, isAcknowledgement, acknowledgeChecks, fits, isMessage, sequence, notApplied, applyChecks, goAloneChecks};
+ghost use Rattle.pool_checks.specs.Checks.{notLent, notLentWith, notLentOut, addChecks, takeChecks, outstandingChecks, isAcknowledgement, acknowledgeChecks, applyChecks, goAloneChecks};
 ghost use Rattle.pool_checks.specs.Inner.{senderOf};
 use pool_message::Message;
 use pool_state::State;
@@ -136,98 +133,13 @@ pub fn acknowledge(
     Outcome::Done
 }
 
-fn fits_adding(master: State, number: u32, strip: &[u8]) -> bool
-    ensures { λ r. ⌜ r ≡ fits master (sort.Adds 0 number) (now (strip .entry)) ⌝ }
-{
-    let Outcome::Done = strip::check_own(strip) else {
-        return false; // of bad form
-    };
-    if pool_state::wide(master.taken) + 64 <= pool_state::wide(master.added) {
-        return false; // to a full pool
-    }
-    pool_state::wide(number) == pool_state::wide(master.added) + 1
-}
-
-fn fits_taking(master: State, number: u32) -> bool
-    ensures { λ r. ⌜ r ≡ fits master (sort.Takes 0 number) [] ⌝ }
-{
-    let Check::Passed = pool_master::check_held(master) else {
-        return false;
-    };
-    pool_state::wide(number) == pool_state::wide(master.taken) + 1
-}
-
-// Whether what a message asks for can be done next.
-fn fits_next(master: State, asked: Message, message: &[u8]) -> bool
-    requires { ⌜ asked ≡ readOf (now message) ⌝ }
-    ensures { λ r. ⌜ r ≡ fits master asked (drop 12 (now (message .entry))) ⌝ }
-{
-    match asked {
-        Message::Adds(_, number) => fits_adding(master, number, &message[12..]),
-        Message::Takes(_, number) => fits_taking(master, number),
-        Message::Acknowledges(_) => false,
-        Message::Unreadable => false,
-    }
-}
-
-fn check_kind(asked: Message) -> Check
-    ensures { λ c. ⌜ failed c ≡ not (isMessage asked) ⌝ }
-{
-    match asked {
-        Message::Adds(_, _) => Check::Passed,
-        Message::Takes(_, _) => Check::Passed,
-        Message::Acknowledges(_) => Check::Failed,
-        Message::Unreadable => Check::Failed,
-    }
-}
-
-pub fn sequence_of(asked: Message) -> u32
-    ensures { λ k. ⌜ k ≡ sequence asked ⌝ }
-{
-    match asked {
-        Message::Adds(sequence, _) => sequence,
-        Message::Takes(sequence, _) => sequence,
-        Message::Acknowledges(sequence) => sequence,
-        Message::Unreadable => 0,
-    }
-}
-
-// 16
-fn check_message(master: State, asked: Message, message: &[u8]) -> Check
-    requires { ⌜ asked ≡ readOf (now message) ⌝ }
-    ensures { λ c. ⌜ failed c ≡ notApplied master asked (drop 12 (now (message .entry))) ⌝ }
-{
-    if master.role != 3 {
-        return Check::Failed;
-    }
-    let Check::Passed = check_kind(asked) else {
-        return Check::Failed;
-    };
-    let next = pool_state::sent(master) + 1;
-    let number = pool_state::wide(sequence_of(asked));
-    if next < number {
-        return Check::Failed;
-    }
-    if number != next {
-        return Check::Passed;
-    }
-    if fits_next(master, asked, message) {
-        return Check::Passed;
-    }
-    Check::Failed
-}
-
 pub fn apply(state: &[u8], rooms: usize, message: &[u8], acknowledgement: usize) -> Outcome
     ensures { λ r. ⌜ outcome r ≡ first (applyChecks (now (state .entry)) rooms (now (message .entry)) acknowledgement) refused (done tt) ⌝ }
 {
     let Check::Passed = check_lent_with(8, state, rooms, acknowledgement) else {
         return refusal::buffer(6);
     };
-    let Check::Passed = check_message(
-        pool_state::read(state),
-        pool_message::read(message),
-        message,
-    ) else {
+    let Check::Passed = pool_fits::check_message(pool_state::read(state), message) else {
         return refusal::message(16);
     };
     Outcome::Done

@@ -45,3 +45,10 @@ readOf m =
     (cond (isOf 1 (leb 12 (length m)) m) (Adds (numberAt m 4) (numberAt m 8))
     (cond (isOf 2 (eqb (length m) 12) m) (Takes (numberAt m 4) (numberAt m 8))
     (cond (isOf 3 (eqb (length m) 8) m) (Acknowledges (numberAt m 4)) Unreadable)))
+
+-- the sequence number of a message, or of the one acknowledged; 0 where it is none
+abbrev pub sequence : Message → ℕ
+sequence (Adds k n) = k
+sequence (Takes k n) = k
+sequence (Acknowledges k) = k
+sequence Unreadable = 0

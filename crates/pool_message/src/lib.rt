@@ -4,7 +4,7 @@ ghost use mathlib.Core.List.{[], _∷_, _++_};
 ghost use Prim.Native.Nat.{_<_};
 ghost use lib.ListN.{getD};
 ghost use Rattle.refusal.specs.Refusal.{failed};
-ghost use Rattle.pool_message.specs.Message.{numberBytes, numberAt, frontBytes, acknowledgement, misframed, readOf};
+ghost use Rattle.pool_message.specs.Message.{numberBytes, numberAt, frontBytes, acknowledgement, misframed, readOf, sequence};
 use refusal::Check;
 
 // What was sent: an addition and a taking with their sequence number and the strip's number, or an acknowledgement.
@@ -119,4 +119,16 @@ pub fn read(part: &[u8]) -> Message
         return Message::Acknowledges(number_at(part, 4));
     }
     Message::Unreadable
+}
+
+// The sequence number, 0 where it is none.
+pub fn sequence_of(asked: Message) -> u32
+    ensures { λ k. ⌜ k ≡ sequence asked ⌝ }
+{
+    match asked {
+        Message::Adds(sequence, _) => sequence,
+        Message::Takes(sequence, _) => sequence,
+        Message::Acknowledges(sequence) => sequence,
+        Message::Unreadable => 0,
+    }
 }

@@ -23,7 +23,8 @@ use Rattle.pool_master.specs.Master as master
 use Rattle.pool_state.specs.State.{stateIn, stateBytes, sent, gone, oneMore, oneTaken, withRole}
 use Rattle.pool_master.specs.Master.{usedUp, sending, counts}
 use Rattle.pool_rooms.specs.Rooms.{roomAt, padded, filled, cleared, stripIn}
-use Rattle.pool_checks.specs.Checks.{addChecks, takeChecks, notApplied}
+use Rattle.pool_checks.specs.Checks.{addChecks, takeChecks}
+use Rattle.pool_fits.specs.Fits.{notApplied}
 use Rattle.pool_sending.specs.Outstanding.{messageOf}
 use Rattle.pool_standby.specs.Calls.{applyOf}
 use Rattle.pool_active.specs.Calls.{addOf, takeOf, acknowledgeOf, settle, handing, handingNone}

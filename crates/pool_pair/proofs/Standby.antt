@@ -13,7 +13,7 @@ use Rattle.refusal.specs.Answer as answer
 use Rattle.refusal.specs.Answer.{Answer, first, isNot, passes}
 use Rattle.refusal.proofs.First.{clash, neither, both-true, true-false, passes-first}
 use Rattle.strip.specs.Strip.{ownChecks}
-use Rattle.pool_message.specs.Message.{acknowledgement, readOf}
+use Rattle.pool_message.specs.Message.{acknowledgement, readOf, sequence}
 use Rattle.pool_message.specs.declared.Message.{Message}
 use Rattle.pool_message.specs.declared.Message.the-variants.{Adds, Takes, Acknowledges, Unreadable}
 use Rattle.pool_mirror.specs.Mirror as mirror
@@ -25,7 +25,8 @@ use Rattle.pool_master.specs.Master.{waiting, counts}
 use Rattle.pool_rooms.specs.Rooms.{filled, cleared}
 use Rattle.pool_checks.specs.Checks as checks
 use Rattle.pool_standby.specs.Calls as calls
-use Rattle.pool_checks.specs.Checks.{isMessage}
+use Rattle.pool_fits.specs.Fits as fitted
+use Rattle.pool_fits.specs.Fits.{isMessage}
 use Rattle.pool_standby.specs.Calls.{applyOf}
 use Rattle.pool_sending.specs.Outstanding.{messageOf}
 use Rattle.pool_active.specs.Calls.{acknowledgeOf, handingNone}
@@ -72,25 +73,25 @@ record Applied (m : State) (before : List ℕ) (x : mirror.Message) (new : List 
 -- what is read from bytes is this message of the system
 record Reads (m : State) (rooms s : List ℕ) (r : Message) (x : mirror.Message) : Type 0 where
   message : isMessage r ≡ true
-  numbered : checks.sequence r ≡ mirror.sequence x
-  fitting : checks.fits m r s ≡ mirror.fits ownChecks (poolIn m rooms) x
-  applying : Filled (m .taken) (m .added) rooms → m .added + m .taken < most → checks.fits m r s ≡ true → Applied m rooms x (calls.applied m r s rooms)
+  numbered : sequence r ≡ mirror.sequence x
+  fitting : fitted.fits m r s ≡ mirror.fits ownChecks (poolIn m rooms) x
+  applying : Filled (m .taken) (m .added) rooms → m .added + m .taken < most → fitted.fits m r s ≡ true → Applied m rooms x (calls.applied m r s rooms)
 
 module _ (m : State) (rooms s : List ℕ) where
-  adds-fit : (k n : ℕ) → checks.fits m (Adds k n) s ≡ mirror.fits ownChecks (poolIn m rooms) (mirror.adds k n s)
-  unfolding checks.fits mirror.fits passes poolIn
+  adds-fit : (k n : ℕ) → fitted.fits m (Adds k n) s ≡ mirror.fits ownChecks (poolIn m rooms) (mirror.adds k n s)
+  unfolding fitted.fits mirror.fits passes poolIn
   adds-fit k n = rw (held-length rooms (m .taken) (m .added - m .taken), below (m .added - m .taken)) refl
 
-  takes-fit : (k n : ℕ) → checks.fits m (Takes k n) s ≡ mirror.fits ownChecks (poolIn m rooms) (mirror.takes k n)
-  unfolding checks.fits mirror.fits poolIn heldIn
+  takes-fit : (k n : ℕ) → fitted.fits m (Takes k n) s ≡ mirror.fits ownChecks (poolIn m rooms) (mirror.takes k n)
+  unfolding fitted.fits mirror.fits poolIn heldIn
   takes-fit k n = go (m .added - m .taken) refl where
     go : (count : ℕ) → m .added - m .taken ≡ count → (ltb (m .taken) (m .added) && eqb n (suc (m .taken))) ≡ mirror.lowestIs n (heldIn rooms (m .taken) count)
     go zero e = rw (le-ltb (m .taken) (m .added) (omega arith)) refl
     go (suc count) e = rw (lt-ltb (m .taken) (m .added) (omega arith)) refl
 
   module _ (f : Filled (m .taken) (m .added) rooms) (small : m .added + m .taken < most) where
-    adds-applied : (k n : ℕ) → checks.fits m (Adds k n) s ≡ true → Applied m rooms (mirror.adds k n s) (calls.applied m (Adds k n) s rooms)
-    unfolding checks.fits calls.applied mirror.applyTo oneMore passes
+    adds-applied : (k n : ℕ) → fitted.fits m (Adds k n) s ≡ true → Applied m rooms (mirror.adds k n s) (calls.applied m (Adds k n) s rooms)
+    unfolding fitted.fits calls.applied mirror.applyTo oneMore passes
     adds-applied k n e =
         let p = both-true (passes (ownChecks s)) _ e in
         let q = both-true (ltb (m .added - m .taken) 64) _ (p .1) in
@@ -106,8 +107,8 @@ module _ (m : State) (rooms s : List ℕ) where
           next = omega arith;
         }
 
-    takes-applied : (k n : ℕ) → checks.fits m (Takes k n) s ≡ true → Applied m rooms (mirror.takes k n) (calls.applied m (Takes k n) s rooms)
-    unfolding checks.fits calls.applied mirror.applyTo oneTaken
+    takes-applied : (k n : ℕ) → fitted.fits m (Takes k n) s ≡ true → Applied m rooms (mirror.takes k n) (calls.applied m (Takes k n) s rooms)
+    unfolding fitted.fits calls.applied mirror.applyTo oneTaken
     takes-applied k n e =
         let some : m .taken < m .added = ltb-true (m .taken) (m .added) (both-true (ltb (m .taken) (m .added)) _ e .0) in
         record {
@@ -150,8 +151,8 @@ module _ (c : Cabinet) (n : ℕ) (v : Standby n c) where
   abbrev Hears : Answer (Unit {0}) × (List ℕ × (List ℕ × List ℕ)) → Said × mirror.Standby → Type 0
   Hears x t = _≡_ {A = Said × mirror.Standby} (afterApply x .0, standbyOf n (afterApply x .1)) t × Heard x
 
-  apply-checks : (bytes : List ℕ) (t : Bool) → checks.notApplied m (readOf bytes) (drop 12 bytes) ≡ t
-      → _≡_ {A = Checks} ((6, checks.notLentWith 8 (c .state) (length (c .rooms)) (length {A = ℕ} (replicate 8 0))) ∷ (16, checks.notApplied m (readOf bytes) (drop 12 bytes)) ∷ []) ((6, false) ∷ (16, t) ∷ [])
+  apply-checks : (bytes : List ℕ) (t : Bool) → fitted.notApplied m (readOf bytes) (drop 12 bytes) ≡ t
+      → _≡_ {A = Checks} ((6, checks.notLentWith 8 (c .state) (length (c .rooms)) (length {A = ℕ} (replicate 8 0))) ∷ (16, fitted.notApplied m (readOf bytes) (drop 12 bytes)) ∷ []) ((6, false) ∷ (16, t) ∷ [])
   apply-checks bytes t e = rw (lent-with (v .kept) (omega arith) 8, e) refl
 
   -- a refusal leaves all as it was
@@ -169,16 +170,16 @@ module _ (c : Cabinet) (n : ℕ) (v : Standby n c) where
     read : Reads m (c .rooms) s r x
     read = reads m (c .rooms) s r x (means .0)
 
-    same-applied : checks.notApplied m r s ≡ mirror.notApplied ownChecks x b
-    unfolding checks.notApplied mirror.notApplied standbyIn
+    same-applied : fitted.notApplied m r s ≡ mirror.notApplied ownChecks x b
+    unfolding fitted.notApplied mirror.notApplied standbyIn
     same-applied = by-bool (eqb (m .role) roles.standby) waits goes-on where
-      waits : eqb (m .role) roles.standby ≡ true → checks.notApplied m r s ≡ mirror.notApplied ownChecks x b
+      waits : eqb (m .role) roles.standby ≡ true → fitted.notApplied m r s ≡ mirror.notApplied ownChecks x b
       waits t =
           let e : m .role ≡ roles.standby = eqb-true (m .role) roles.standby t in
           let level : sent m - n ≡ sent m = omega (arith, v .alone e) in
           rw (level, read .message, read .numbered, read .fitting, e) refl
 
-      goes-on : eqb (m .role) roles.standby ≡ false → checks.notApplied m r s ≡ mirror.notApplied ownChecks x b
+      goes-on : eqb (m .role) roles.standby ≡ false → fitted.notApplied m r s ≡ mirror.notApplied ownChecks x b
       goes-on f =
           let e : m .role ≡ roles.alone = omega (arith, eqb-false (m .role) roles.standby f, v .kept .sound .least, v .kept .sound .greatest) in
           rw e refl
@@ -196,7 +197,7 @@ module _ (c : Cabinet) (n : ℕ) (v : Standby n c) where
     }
 
     -- one that is not refused finds a standby that is not alone, and is at most the next, and then one that fits
-    in-turn : mirror.notApplied ownChecks x b ≡ false → (m .role ≡ roles.standby) × (mirror.sequence x ≤ suc (sent m)) × (mirror.sequence x ≡ suc (sent m) → checks.fits m r s ≡ true)
+    in-turn : mirror.notApplied ownChecks x b ≡ false → (m .role ≡ roles.standby) × (mirror.sequence x ≤ suc (sent m)) × (mirror.sequence x ≡ suc (sent m) → fitted.fits m r s ≡ true)
     unfolding mirror.notApplied standbyIn
     in-turn e =
         let p = neither (eqb (m .role) roles.alone) _ e in
@@ -224,7 +225,7 @@ module _ (c : Cabinet) (n : ℕ) (v : Standby n c) where
           heard (stateBytes (w .state)) (w .rooms) (record { kept = kept-new (w .sound); alone = λ _. z }),
         )
 
-    applies : m .role ≡ roles.standby → mirror.sequence x ≡ suc (sent m) → checks.fits m r s ≡ true → Applied m (c .rooms) x (calls.applied m r s (c .rooms))
+    applies : m .role ≡ roles.standby → mirror.sequence x ≡ suc (sent m) → fitted.fits m r s ≡ true → Applied m (c .rooms) x (calls.applied m r s (c .rooms))
     applies here i fit = read .applying (rw (gone-is m (λ e. omega arith)) at (v .kept .sound .filled)) (omega (arith, means .1)) fit
 
     pub apply-follows : Hears (applyAt bytes c) (mirror.receive ownChecks x b)
@@ -235,7 +236,7 @@ module _ (c : Cabinet) (n : ℕ) (v : Standby n c) where
           level : m .role ≡ roles.standby → leb (mirror.sequence x) (b .applied) ≡ leb (mirror.sequence x) (sent m)
           level here = let z : sent m - n ≡ sent m = omega (arith, v .alone here) in ap (leb (mirror.sequence x)) z
 
-          go : (t : Bool) → leb (mirror.sequence x) (sent m) ≡ t → (m .role ≡ roles.standby) × (mirror.sequence x ≤ suc (sent m)) × (mirror.sequence x ≡ suc (sent m) → checks.fits m r s ≡ true)
+          go : (t : Bool) → leb (mirror.sequence x) (sent m) ≡ t → (m .role ≡ roles.standby) × (mirror.sequence x ≤ suc (sent m)) × (mirror.sequence x ≡ suc (sent m) → fitted.fits m r s ≡ true)
               → let now : List ℕ × List ℕ = cond t (c .state, c .rooms) (calls.applied m r s (c .rooms)) in
               Hears (answer.done tt, (now .0, (now .1, acknowledgement (mirror.sequence x)))) (mirror.acknowledged (mirror.sequence x), cond t b after)
           go true e t = hears-old
@@ -245,7 +246,7 @@ module _ (c : Cabinet) (n : ℕ) (v : Standby n c) where
 
   -- bytes that are no message get 16
   pub apply-none : (bytes : List ℕ) → messageIn (readOf bytes) (drop 12 bytes) ≡ [] → apply bytes c ≡ refused16 c
-  unfolding apply afterApply applyOf checks.notApplied first
+  unfolding apply afterApply applyOf fitted.notApplied first
   apply-none bytes e = rw (lent-with (v .kept) (omega arith) 8, none (readOf bytes) e, either-true (isNot roles.standby (m .role))) refl where
     none : (r : Message) → messageIn r (drop 12 bytes) ≡ [] → isMessage r ≡ false
     none (Adds k i) e = clash cc

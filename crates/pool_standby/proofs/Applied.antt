@@ -13,9 +13,9 @@ use Rattle.pool_message.specs.declared.Message.the-variants.{Adds, Takes, Ackno
 use Rattle.pool_state.specs.declared.State.{State}
 use Rattle.pool_state.specs.State.{stateBytes, oneMore, oneTaken}
 use Rattle.pool_rooms.specs.Rooms.{filled, cleared}
-use Rattle.pool_checks.specs.Checks.{fits}
+use Rattle.pool_fits.specs.Fits.{fits}
 use Rattle.pool_standby.specs.Calls.{applied}
-use Rattle.pool_checks.proofs.Fits.{whole-strip}
+use Rattle.pool_fits.proofs.Fits.{whole-strip}
 
 module _ (m : State) (x : Message) (b : List ℕ) where
   -- the strip of an addition that fits goes into a room

@@ -10,12 +10,13 @@ use borrow.Author.Tests.{ltb-false, le-leb, lt-leb, eq-eqb, not-false}
 use Rattle.refusal.specs.Answer.{isNot, passes}
 use Rattle.refusal.specs.declared.Check.the-variants.{Passed}
 use Rattle.refusal.proofs.First.{neither, passed-is, passes-first}
-use Rattle.pool_message.specs.Message.{numberBytes, frontBytes, acknowledgement, readOf}
+use Rattle.pool_message.specs.Message.{numberBytes, frontBytes, acknowledgement, readOf, sequence}
 use Rattle.pool_message.specs.declared.Message.{Message}
 use Rattle.pool_state.specs.declared.State.{State}
 use Rattle.pool_state.specs.State.{stateIn, stateBytes, sent, noState, impossible, withRole}
 use Rattle.pool_rooms.specs.Rooms.{roomsSize}
-use Rattle.pool_checks.specs.Checks.{notLentWith, fits, isMessage, sequence, notApplied, applyChecks, goAloneChecks}
+use Rattle.pool_checks.specs.Checks.{notLentWith, applyChecks, goAloneChecks}
+use Rattle.pool_fits.specs.Fits.{fits, isMessage, notApplied}
 use Rattle.pool_standby.specs.Calls.{applied, answered}
 use Rattle.pool_checks.proofs.Admitted.{lent-with}
 

@@ -6,12 +6,13 @@ use lib.ListN.{length, drop}
 use lib.Dec.{leb}
 use Rattle.refusal.specs.Answer.{Answer, done, refused, first}
 use Rattle.pool_message.specs.Message as message
+use Rattle.pool_message.specs.Message.{sequence}
 use Rattle.pool_message.specs.declared.Message.{Message}
 use Rattle.pool_message.specs.declared.Message.the-variants.{Adds, Takes, Acknowledges, Unreadable}
 use Rattle.pool_state.specs.declared.State.{State}
 use Rattle.pool_state.specs.State.{standby, alone, stateIn, stateBytes, oneMore, oneTaken, withRole, sent}
 use Rattle.pool_rooms.specs.Rooms.{filled, cleared}
-use Rattle.pool_checks.specs.Checks.{sequence, applyChecks, goAloneChecks}
+use Rattle.pool_checks.specs.Checks.{applyChecks, goAloneChecks}
 
 -- what the next message asks for is done
 unfoldable pub applied : State → Message → List ℕ → List ℕ → List ℕ × List ℕ

@@ -7,7 +7,8 @@ ghost use Rattle.refusal.specs.Answer.{outcome, passes};
 ghost use Rattle.pool_message.specs.Message.{readOf, acknowledgement};
 ghost use Rattle.pool_rooms.specs.Rooms.{roomsSize};
 ghost use Rattle.pool_state.specs.State.{stateIn, stateBytes, withRole, sent};
-ghost use Rattle.pool_checks.specs.Checks.{fits, applyChecks, goAloneChecks};
+ghost use Rattle.pool_fits.specs.Fits.{fits};
+ghost use Rattle.pool_checks.specs.Checks.{applyChecks, goAloneChecks};
 ghost use Rattle.pool_standby.specs.Calls.{applied, answered, applyOf, goAloneOf};
 use pool_message::Message;
 use pool_state::State;
@@ -48,7 +49,7 @@ fn apply_message(state: &mut [u8], rooms: &mut [u8], message: &[u8], acknowledge
 {
     let master = pool_state::read(state);
     let asked = pool_message::read(message);
-    let sequence = pool_checks::sequence_of(asked);
+    let sequence = pool_message::sequence_of(asked);
     write_acknowledgement(sequence, acknowledgement);
     if pool_state::sent(master) < pool_state::wide(sequence) {
         apply_next(master, asked, message, state, rooms);

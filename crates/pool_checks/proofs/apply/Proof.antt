@@ -1,5 +1,5 @@
 -- `pool_checks::apply` meets its contract: from the check of what is lent, then 16. Assumes nothing.
-use Rattle.pool_checks.proofs.Fits.{asked-of}
+use Rattle.pool_checks.proofs.Admitted.{asked-of}
 use Rattle.refusal.proofs.First.{first-stop, first-on, first-done}
 use mathlib.Core.Path.{refl}
 use borrow.Author.Needs.{needs}
@@ -24,9 +24,6 @@ returns c = first-stop _ _ _ _ _ _ _ (c .before .before .before .check-lent-with
 read-requires : tie.Need-read-requires
 read-requires c κs = search needs
 
-read-requires-2 : tie.Need-read-requires-2
-read-requires-2 c κs = search needs
-
 check-message-requires : tie.Need-check-message-requires
 check-message-requires c κs = search needs
 
@@ -40,10 +37,10 @@ message-requires : tie.Need-message-requires
 message-requires c κs = search needs
 
 returns-2 : tie.Need-returns-2
-returns-2 c = first-on _ _ _ _ _ _ _ (c .before .before .before .before .before .before .before .before .check-lent-with .ensures) (c .before .before .before .before .before .before .enum-told .given .1) (first-stop _ _ _ _ _ _ _ (asked-of _ _ (c .before .before .before .check-message .result) _ _ (c .before .before .before .check-message .ensures) (c .before .before .before .before .before .read .ensures) (c .before .before .before .before .read2 .ensures)) (c .before .enum-told4 .given .1) (c .message .ensures))
+returns-2 c = first-on _ _ _ _ _ _ _ (c .before .before .before .before .before .before .before .check-lent-with .ensures) (c .before .before .before .before .before .enum-told .given .1) (first-stop _ _ _ _ _ _ _ (asked-of _ _ (c .before .before .before .check-message .result) _ (c .before .before .before .check-message .ensures) (c .before .before .before .before .read .ensures)) (c .before .enum-told4 .given .1) (c .message .ensures))
 
 returns-3 : tie.Need-returns-3
-returns-3 c = first-on _ _ _ _ _ _ _ (c .before .before .before .before .before .before .before .check-lent-with .ensures) (c .before .before .before .before .before .enum-told .given .1) (first-on _ _ _ _ _ _ _ (asked-of _ _ (c .before .before .check-message .result) _ _ (c .before .before .check-message .ensures) (c .before .before .before .before .read .ensures) (c .before .before .before .read2 .ensures)) (c .enum-told3 .given .1) (first-done _ _ _ refl))
+returns-3 c = first-on _ _ _ _ _ _ _ (c .before .before .before .before .before .before .check-lent-with .ensures) (c .before .before .before .before .enum-told .given .1) (first-on _ _ _ _ _ _ _ (asked-of _ _ (c .before .before .check-message .result) _ (c .before .before .check-message .ensures) (c .before .before .before .read .ensures)) (c .enum-told3 .given .1) (first-done _ _ _ refl))
 
 pub apply-spec : {M : Type 1} → statement M
 apply-spec =
@@ -55,7 +52,6 @@ apply-spec =
     buffer-requires
     returns
     read-requires
-    read-requires-2
     check-message-requires
     enum-told-3
     enum-told-4

@@ -2,7 +2,7 @@
 use native.Mathlib.Omega.{arith}
 use Rattle.refusal.proofs.Part.{of-length}
 use Rattle.pool_rooms.proofs.Places.{put-whole}
-use Rattle.pool_checks.proofs.Fits.{has-strip}
+use Rattle.pool_fits.proofs.Fits.{has-strip}
 use Rattle.pool_standby.proofs.Applied.{fits-room, applied-adds, applied-takes, fits-no-acknowledgement, fits-not-unreadable}
 use borrow.Author.Needs.{needs}
 use Rattle.pool_standby.proofs.apply_next.Statement.{statement}

@@ -18,14 +18,14 @@ use Rattle.refusal.specs.declared.Outcome.{Outcome}
 use Rattle.refusal.specs.declared.Outcome.the-variants.{Done, Refused}
 use Rattle.refusal.proofs.First.{one-failed, call-passes}
 use Rattle.strip.specs.Strip.{ownChecks, ownFormOf}
-use Rattle.pool_message.specs.Message.{readOf}
+use Rattle.pool_message.specs.Message.{readOf, sequence}
 use Rattle.pool_message.specs.declared.Message.{Message}
 use Rattle.pool_message.specs.declared.Message.the-variants.{Adds, Takes, Acknowledges, Unreadable}
 use Rattle.pool_message.proofs.Laws.{adds-long}
 use Rattle.pool_state.specs.declared.State.{State}
-use Rattle.pool_state.specs.State.{stateIn, sent}
+use Rattle.pool_state.specs.State.{sent}
 use Rattle.pool_master.specs.Master.{noneHeld}
-use Rattle.pool_checks.specs.Checks.{sequence, isMessage, fits, notApplied}
+use Rattle.pool_fits.specs.Fits.{isMessage, fits, notApplied}
 
 -- ---- an addition
 module _ (m : State) (n : ℕ) (s : List ℕ) (x : Outcome) (e : outcome x ≡ ownFormOf s) where
@@ -109,6 +109,6 @@ module _ (m : State) (x : Message) (s : List ℕ) where
         twice true = refl
         twice false = refl
 
--- asked of the state and the message as they were read
-pub asked-of : (st b : List ℕ) (k : Check) (m : State) (x : Message) → failed k ≡ notApplied m x (drop 12 b) → m ≡ stateIn st → x ≡ readOf b → failed k ≡ notApplied (stateIn st) (readOf b) (drop 12 b)
-asked-of st b k m x c h i = c ∙ rw (h, i) refl
+-- asked of the message as it was read
+pub as-read : (t : Bool) (m : State) (x : Message) (b : List ℕ) → x ≡ readOf b → t ≡ notApplied m x (drop 12 b) → t ≡ notApplied m (readOf b) (drop 12 b)
+as-read t m x b e h = h ∙ ap (λ (y : Message). notApplied m y (drop 12 b)) e

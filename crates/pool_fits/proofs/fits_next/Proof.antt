@@ -1,8 +1,8 @@
--- `pool_checks::fits_next` meets its contract: by what the message is. Assumes nothing.
+-- `pool_fits::fits_next` meets its contract: by what the message is. Assumes nothing.
 use borrow.Author.Needs.{needs}
-use Rattle.pool_checks.proofs.Fits.{has-strip, fits-adds, fits-takes, fits-acknowledges, fits-unreadable}
-use Rattle.pool_checks.proofs.fits_next.Statement.{statement}
-use Rattle.pool_checks.proofs.fits_next.Tie as tie
+use Rattle.pool_fits.proofs.Fits.{has-strip, fits-adds, fits-takes, fits-acknowledges, fits-unreadable}
+use Rattle.pool_fits.proofs.fits_next.Statement.{statement}
+use Rattle.pool_fits.proofs.fits_next.Tie as tie
 
 enum-known-asked : tie.Need-enum-known-asked
 enum-known-asked c = search needs

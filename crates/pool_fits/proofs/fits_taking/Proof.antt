@@ -1,8 +1,8 @@
--- `pool_checks::fits_taking` meets its contract: from whether any is held and the number. Assumes nothing.
+-- `pool_fits::fits_taking` meets its contract: from whether any is held and the number. Assumes nothing.
 use borrow.Author.Needs.{needs}
-use Rattle.pool_checks.proofs.Fits.{none-there, by-lowest}
-use Rattle.pool_checks.proofs.fits_taking.Statement.{statement}
-use Rattle.pool_checks.proofs.fits_taking.Tie as tie
+use Rattle.pool_fits.proofs.Fits.{none-there, by-lowest}
+use Rattle.pool_fits.proofs.fits_taking.Statement.{statement}
+use Rattle.pool_fits.proofs.fits_taking.Tie as tie
 
 check-held-requires : tie.Need-check-held-requires
 check-held-requires c κs = search needs

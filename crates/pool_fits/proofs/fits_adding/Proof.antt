@@ -1,9 +1,9 @@
--- `pool_checks::fits_adding` meets its contract: from the strip's own check, the count and the number. Assumes nothing.
+-- `pool_fits::fits_adding` meets its contract: from the strip's own check, the count and the number. Assumes nothing.
 use native.Mathlib.Omega.{arith}
 use borrow.Author.Needs.{needs}
-use Rattle.pool_checks.proofs.Fits.{bad-form, no-space, by-number}
-use Rattle.pool_checks.proofs.fits_adding.Statement.{statement}
-use Rattle.pool_checks.proofs.fits_adding.Tie as tie
+use Rattle.pool_fits.proofs.Fits.{bad-form, no-space, by-number}
+use Rattle.pool_fits.proofs.fits_adding.Statement.{statement}
+use Rattle.pool_fits.proofs.fits_adding.Tie as tie
 
 check-own-requires : tie.Need-check-own-requires
 check-own-requires c κs = search needs
