@@ -1,6 +1,5 @@
 -- The bytes that the code makes, against xtime and the products: by computed tests, and additivity. Assumes nothing.
-use mathlib.Core.Path.{_≡_, refl, ap, _∙_}
-use mathlib.Core.Bool.{Bool, true, false}
+use mathlib.Core.Path.{_≡_, refl, ap, ap₂, _∙_}
 use Prim.Native.Nat.{ℕ, _*_, _/_, _%_, _<_}
 use lib.Bits.{bitXor}
 use Rattle.fips197.specs.Field.{field, _⊕_, xtime, _•_}
@@ -8,7 +7,7 @@ use Rattle.fips197.proofs.Below.{eq1}
 use Rattle.fips197.proofs.Xor.{sums, lt}
 use Rattle.fips197.proofs.Additive.{Additive, agree-on-bytes}
 use Rattle.fips197.proofs.Field.{xtime-additive, product-right, product-lt}
-use Rattle.columns.specs.Inner.{mixByte, invMixByte, byteBy}
+use Rattle.columns.specs.Inner.{mixByte, invMixByte}
 
 -- doubling without a branch
 pub doubled : (b : ℕ) → b < 256 → bitXor (b * 2 % 256) (b / 128 * 0x1b) ≡ xtime b
@@ -64,35 +63,70 @@ nine : (x : ℕ) → x < 256 → 0x09 • x ≡ 2 • (2 • (2 • x)) ⊕ x
 unfolding field
 nine = agree-on-bytes (λ x. 0x09 • x) (λ x. 2 • (2 • (2 • x)) ⊕ x) (product-right 0x09) nine-additive tt
 
--- doubling as the product by two, which is additive
-lt3 : (a b c : ℕ) → a < 256 → b < 256 → c < 256 → a ⊕ b ⊕ c < 256
-lt3 a b c ha hb hc = lt 8 (a ⊕ b) c (lt 8 a b ha hb) hc
-
+-- the four bytes of an inverse column share their doublings, which are products by two
 module _ (a b c d : ℕ) (ha : a < 256) (hb : b < 256) (hc : c < 256) (hd : d < 256) where
-  turns : 2 • (2 • (2 • (a ⊕ b ⊕ c ⊕ d) ⊕ a ⊕ c) ⊕ a ⊕ b) ⊕ b ⊕ c ⊕ d ≡ invMixByte a b c d
+  abbrev sum : ℕ
+  sum = a ⊕ b ⊕ c ⊕ d
+
+  abbrev once : ℕ
+  once = 2 • sum
+
+  abbrev twice : ℕ
+  twice = 2 • (once ⊕ a ⊕ c)
+
+  byte-0 : 2 • (twice ⊕ a ⊕ b) ⊕ sum ⊕ a ≡ invMixByte a b c d
   unfolding invMixByte
-  turns = rw (fourteen a ha, eleven b hb, thirteen c hc, nine d hd) (simp (product-right, sums))
+  byte-0 = rw (fourteen a ha, eleven b hb, thirteen c hc, nine d hd) (simp (product-right, sums))
 
-  inverse-sum : {x y z : ℕ} → x ≡ xtime (a ⊕ b ⊕ c ⊕ d) → y ≡ xtime (x ⊕ a ⊕ c) → z ≡ xtime (y ⊕ a ⊕ b) → z ⊕ b ⊕ c ⊕ d ≡ invMixByte a b c d
-  inverse-sum {x} {y} {z} p q r =
-      let p′ : x ≡ 2 • (a ⊕ b ⊕ c ⊕ d) = p ∙ two _ (lt 8 (a ⊕ b ⊕ c) d (lt3 a b c ha hb hc) hd) in
-      let hx : x < 256 = rw p′ (product-lt 2 _) in
-      let q′ : y ≡ 2 • (x ⊕ a ⊕ c) = q ∙ two _ (lt3 x a c hx ha hc) in
-      let hy : y < 256 = rw q′ (product-lt 2 _) in
-      let r′ : z ≡ 2 • (y ⊕ a ⊕ b) = r ∙ two _ (lt3 y a b hy ha hb) in
-      ap (λ (t : ℕ). t ⊕ b ⊕ c ⊕ d) (r′ ∙ ap (λ (t : ℕ). 2 • (t ⊕ a ⊕ b)) (q′ ∙ ap (λ (t : ℕ). 2 • (t ⊕ a ⊕ c)) p′)) ∙ turns
+  byte-1 : 2 • (once ⊕ twice ⊕ b ⊕ c) ⊕ sum ⊕ b ≡ invMixByte b c d a
+  unfolding invMixByte
+  byte-1 = rw (fourteen b hb, eleven c hc, thirteen d hd, nine a ha) (simp (product-right, sums))
 
-  pub inverse-mixed-byte : {x y z : ℕ} → x ≡ xtime (bitXor (bitXor (bitXor a b) c) d) → y ≡ xtime (bitXor (bitXor x a) c) → z ≡ xtime (bitXor (bitXor y a) b)
-      → bitXor (bitXor (bitXor z b) c) d ≡ invMixByte a b c d
-  unfolding _⊕_
-  inverse-mixed-byte p q r = inverse-sum p q r
+  byte-2 : 2 • (twice ⊕ a ⊕ b) ⊕ once ⊕ sum ⊕ c ≡ invMixByte c d a b
+  unfolding invMixByte
+  byte-2 = rw (fourteen c hc, eleven d hd, thirteen a ha, nine b hb) (simp (product-right, sums))
 
--- which of the two bytes a column takes
-module _ (inverse : Bool) (a b c d x : ℕ) where
-  pub byte-back : inverse ≡ true → x ≡ invMixByte a b c d → x ≡ byteBy inverse a b c d
-  unfolding byteBy
-  byte-back h e = rw h e
+  byte-3 : 2 • (once ⊕ twice ⊕ b ⊕ c) ⊕ once ⊕ sum ⊕ d ≡ invMixByte d a b c
+  unfolding invMixByte
+  byte-3 = rw (fourteen d hd, eleven a ha, thirteen b hb, nine c hc) (simp (product-right, sums))
 
-  pub byte-forth : inverse ≡ false → x ≡ mixByte a b c d → x ≡ byteBy inverse a b c d
-  unfolding byteBy
-  byte-forth h e = rw h e
+  module _ {x y z w : ℕ} (p : x ≡ xtime sum) (q : y ≡ xtime (x ⊕ a ⊕ c)) (r : z ≡ xtime (y ⊕ a ⊕ b)) (s : w ≡ xtime (x ⊕ y ⊕ b ⊕ c)) where
+    is-x : x ≡ once
+    is-x = p ∙ two sum (lt 8 (a ⊕ b ⊕ c) d (lt 8 (a ⊕ b) c (lt 8 a b ha hb) hc) hd)
+
+    hx : x < 256
+    hx = rw is-x (product-lt 2 sum)
+
+    is-y : y ≡ twice
+    is-y = q ∙ two _ (lt 8 (x ⊕ a) c (lt 8 x a hx ha) hc) ∙ ap (λ (t : ℕ). 2 • (t ⊕ a ⊕ c)) is-x
+
+    hy : y < 256
+    hy = rw is-y (product-lt 2 (once ⊕ a ⊕ c))
+
+    is-z : z ≡ 2 • (twice ⊕ a ⊕ b)
+    is-z = r ∙ two _ (lt 8 (y ⊕ a) b (lt 8 y a hy ha) hb) ∙ ap (λ (t : ℕ). 2 • (t ⊕ a ⊕ b)) is-y
+
+    is-w : w ≡ 2 • (once ⊕ twice ⊕ b ⊕ c)
+    is-w = s ∙ two _ (lt 8 (x ⊕ y ⊕ b) c (lt 8 (x ⊕ y) b (lt 8 x y hx hy) hb) hc) ∙ ap₂ (λ (t u : ℕ). 2 • (t ⊕ u ⊕ b ⊕ c)) is-x is-y
+
+    shared : (z ⊕ sum ⊕ a ≡ invMixByte a b c d) × ((w ⊕ sum ⊕ b ≡ invMixByte b c d a) × ((z ⊕ x ⊕ sum ⊕ c ≡ invMixByte c d a b) × (w ⊕ x ⊕ sum ⊕ d ≡ invMixByte d a b c)))
+    shared = (
+      ap (λ (t : ℕ). t ⊕ sum ⊕ a) is-z ∙ byte-0,
+      (
+        ap (λ (t : ℕ). t ⊕ sum ⊕ b) is-w ∙ byte-1,
+        (
+          ap₂ (λ (t u : ℕ). t ⊕ u ⊕ sum ⊕ c) is-z is-x ∙ byte-2,
+          ap₂ (λ (t u : ℕ). t ⊕ u ⊕ sum ⊕ d) is-w is-x ∙ byte-3,
+        ),
+      ),
+    )
+
+-- and as the code writes them
+pub inverse-bytes : (a b c d : ℕ) → a < 256 → b < 256 → c < 256 → d < 256 → {x y z w : ℕ}
+    → x ≡ xtime (bitXor (bitXor (bitXor a b) c) d) → y ≡ xtime (bitXor (bitXor x a) c) → z ≡ xtime (bitXor (bitXor y a) b) → w ≡ xtime (bitXor (bitXor (bitXor x y) b) c)
+    → (bitXor (bitXor z (bitXor (bitXor (bitXor a b) c) d)) a ≡ invMixByte a b c d)
+    × ((bitXor (bitXor w (bitXor (bitXor (bitXor a b) c) d)) b ≡ invMixByte b c d a)
+    × ((bitXor (bitXor (bitXor z x) (bitXor (bitXor (bitXor a b) c) d)) c ≡ invMixByte c d a b)
+    × (bitXor (bitXor (bitXor w x) (bitXor (bitXor (bitXor a b) c) d)) d ≡ invMixByte d a b c)))
+unfolding _⊕_
+inverse-bytes a b c d ha hb hc hd p q r s = shared a b c d ha hb hc hd p q r s

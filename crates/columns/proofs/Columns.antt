@@ -1,6 +1,6 @@
 -- A column rewritten by four stores, and a state by its four columns one after the other. Assumes nothing.
 use mathlib.Core.Path.{_≡_, refl, sym, subst, _∙_}
-use mathlib.Core.Bool.{true, false}
+use mathlib.Core.Bool.{Bool, true, false}
 use mathlib.Core.List.{List, [], _∷_, _++_}
 use Prim.Native.Nat.{ℕ}
 use lib.ListN.{length, getD, take, drop, set}
@@ -39,6 +39,16 @@ module _ (f : ℕ → ℕ → ℕ → ℕ → ℕ) where
       → m4 ≡ columnOf f (take 4 (drop 12 (put 8 (put 4 (put 0 l m1) m2) m3)))
       → put 12 (put 8 (put 4 (put 0 l m1) m2) m3) m4 ≡ columnsOf f l
   columns-stored l m1 m2 m3 m4 h e1 e2 e3 e4 = rw (e4, e3, e2, e1) (at-all l h)
+
+-- which of the two columns is taken
+module _ (inverse : Bool) (l m : List ℕ) where
+  pub column-back : inverse ≡ true → m ≡ columnOf invMixByte l → m ≡ columnOf (byteBy inverse) l
+  unfolding byteBy
+  column-back h e = rw h e
+
+  pub column-forth : inverse ≡ false → m ≡ columnOf mixByte l → m ≡ columnOf (byteBy inverse) l
+  unfolding byteBy
+  column-forth h e = rw h e
 
 -- the columns are the standard's
 pub mixed : (l : List ℕ) → length l ≡ 16 → columnsOf (byteBy false) l ≡ mixColumns l

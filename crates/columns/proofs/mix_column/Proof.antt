@@ -17,26 +17,26 @@ slice-read-c c = search needs
 slice-read-d : tie.Need-slice-read-d
 slice-read-d c = search needs
 
-column-byte-requires : tie.Need-column-byte-requires
-column-byte-requires c κs = search needs
+mix-byte-requires : tie.Need-mix-byte-requires
+mix-byte-requires c κs = search needs
 
 slice-write-column : tie.Need-slice-write-column
 slice-write-column c = search needs
 
-column-byte-requires-2 : tie.Need-column-byte-requires-2
-column-byte-requires-2 c κs = search needs
+mix-byte-requires-2 : tie.Need-mix-byte-requires-2
+mix-byte-requires-2 c κs = search needs
 
 slice-write-column-2 : tie.Need-slice-write-column-2
 slice-write-column-2 c = search needs
 
-column-byte-requires-3 : tie.Need-column-byte-requires-3
-column-byte-requires-3 c κs = search needs
+mix-byte-requires-3 : tie.Need-mix-byte-requires-3
+mix-byte-requires-3 c κs = search needs
 
 slice-write-column-3 : tie.Need-slice-write-column-3
 slice-write-column-3 c = search needs
 
-column-byte-requires-4 : tie.Need-column-byte-requires-4
-column-byte-requires-4 c κs = search needs
+mix-byte-requires-4 : tie.Need-mix-byte-requires-4
+mix-byte-requires-4 c κs = search needs
 
 slice-write-column-4 : tie.Need-slice-write-column-4
 slice-write-column-4 c = search needs
@@ -46,8 +46,8 @@ same-length c = search needs
 
 returns : tie.Need-returns
 returns c =
-    column-stored _ _ _ _ _ _ (omega arith) (c .before .before .before .column-byte .ensures) (c .before .before .column-byte2 .ensures)
-    (c .before .column-byte3 .ensures) (c .column-byte4 .ensures)
+    column-stored _ _ _ _ _ _ (omega arith) (c .before .before .before .mix-byte .ensures) (c .before .before .mix-byte2 .ensures)
+    (c .before .mix-byte3 .ensures) (c .mix-byte4 .ensures)
 
 pub mix-column-spec : {M : Type 1} → statement M
 mix-column-spec =
@@ -57,13 +57,13 @@ mix-column-spec =
     slice-read-b
     slice-read-c
     slice-read-d
-    column-byte-requires
+    mix-byte-requires
     slice-write-column
-    column-byte-requires-2
+    mix-byte-requires-2
     slice-write-column-2
-    column-byte-requires-3
+    mix-byte-requires-3
     slice-write-column-3
-    column-byte-requires-4
+    mix-byte-requires-4
     slice-write-column-4
     same-length
     returns)
