@@ -12,7 +12,7 @@ enum { ROWS = 64, NAMED = 8 };
 /* Over all pairs of secrets: the most steps and registers, the sum of the findings. */
 struct row {
     const struct symbol *function;
-    unsigned long steps, registers, round_keys, open;
+    unsigned long steps, registers, round_keys;
     struct findings findings;
     double greatest;
 };
@@ -52,18 +52,6 @@ static bool is_round_key(const struct listing_case *listing, const struct symbol
     return listing->place == IN_KEY && (adding || left) && watch_unmasked(&watched->samples[kind]);
 }
 
-/* Known and not yet cured: in a decryption rdi goes from a data byte to its mask byte between the row
- * shifts, and xmm registers from the data's columns to the mask's (docs/LISTING.md). Any other register,
- * and anywhere else, is a finding. */
-static bool is_open(const struct listing_case *listing, const struct symbol *function, int place, int kind)
-{
-    bool decrypting = listing->call->kind == BLOCK && listing->call->direction == SALCIVORN_DECRYPT;
-    bool rows = strcmp(function->name, "salcivorn_block") == 0 && strcmp(step_names[place], "rdi") == 0;
-    bool columns = strcmp(function->name, "cipher::unmix") == 0 && place >= XMM;
-
-    return decrypting && !listing_known_bad(listing) && kind == TRANSITION && (rows || columns);
-}
-
 static void add_sample(struct row *row, const struct listing_case *listing, const uint8_t *secrets,
                        const struct step *step, int place, int kind)
 {
@@ -76,8 +64,6 @@ static void add_sample(struct row *row, const struct listing_case *listing, cons
         return;
     if (is_round_key(listing, row->function, watched, kind)) {
         row->round_keys++;
-    } else if (is_open(listing, row->function, place, kind)) {
-        row->open++;
     } else {
         row->findings.depend[kind]++;
         name_finding(listing, secrets, row->function, step, place, kind, figure);
@@ -118,7 +104,6 @@ static void merge(const struct row *row)
     for (int kind = 0; kind < KINDS; kind++)
         into->findings.depend[kind] += row->findings.depend[kind];
     into->round_keys += row->round_keys;
-    into->open += row->open;
     into->greatest = fmax(into->greatest, row->greatest);
 }
 
@@ -149,8 +134,8 @@ void table_add(const struct listing_case *listing, const uint8_t *secrets)
 
 void table_print_head(void)
 {
-    printf("%-36s%-36s%8s%11s%8s%13s%12s%6s%10s\n", "case", "function", "steps", "registers", "values", "transitions",
-           "round keys", "open", "greatest");
+    printf("%-36s%-36s%8s%11s%8s%13s%12s%10s\n", "case", "function", "steps", "registers", "values", "transitions",
+           "round keys", "greatest");
 }
 
 struct findings table_print(const struct listing_case *listing)
@@ -160,9 +145,9 @@ struct findings table_print(const struct listing_case *listing)
     for (size_t i = 0; i < row_count; i++) {
         const struct row *row = &rows[i];
 
-        printf("%-36s%-36s%8lu%11lu%8lu%13lu%12lu%6lu%10.1f\n", listing->name, row->function->name, row->steps,
+        printf("%-36s%-36s%8lu%11lu%8lu%13lu%12lu%10.1f\n", listing->name, row->function->name, row->steps,
                row->registers, row->findings.depend[VALUE], row->findings.depend[TRANSITION], row->round_keys,
-               row->open, row->greatest);
+               row->greatest);
         for (int kind = 0; kind < KINDS; kind++)
             all.depend[kind] += row->findings.depend[kind];
     }

@@ -20,7 +20,7 @@ use Rattle.sbox.specs.declared.Direction.{Direction}
 use Rattle.sbox.specs.Sbox.{newByte, newMask}
 use Rattle.sbox.specs.Sbox as sbox
 use Rattle.cipher.specs.Block.{recordAt, newMasks}
-use Rattle.cipher.specs.Inner.{Ready, substituted}
+use Rattle.cipher.specs.Inner.{Ready, maskedSubBytes}
 use Rattle.cipher.proofs.Records.{third}
 
 -- ---- one byte
@@ -51,10 +51,10 @@ cell-at l i = ap (λ (j : ℕ). getD l j 0) (place i)
 
 module _ (dir : Direction) (s : List ℕ) (n : ℕ) (d m : List ℕ) where
   abbrev newData : List ℕ
-  newData = substituted dir s n (d, m) .0
+  newData = maskedSubBytes dir s n (d, m) .0
 
   pub data-long : length newData ≡ 16
-  unfolding substituted
+  unfolding maskedSubBytes
   data-long = length-state _
 
   pub mask-long : length (newMasks dir s n) ≡ 16
@@ -62,7 +62,7 @@ module _ (dir : Direction) (s : List ℕ) (n : ℕ) (d m : List ℕ) where
   mask-long = length-state _
 
   data-at : (i : ℕ) → i < 16 → getD newData i 0 ≡ newByte dir (getD d i 0) (getD m i 0) (recordAt s (16 * n + i))
-  unfolding substituted
+  unfolding maskedSubBytes
   data-at i h = get-state _ i h ∙ rw (cell-at d i, cell-at m i, place i) refl
 
   mask-at : (i : ℕ) → i < 16 → getD (newMasks dir s n) i 0 ≡ newMask dir (recordAt s (16 * n + i))
@@ -107,11 +107,11 @@ module _ (dir : Direction) (s : List ℕ) (n : ℕ) (d m : List ℕ) where
         small : (ρ : Record) → ρ ≡ recordAt s (16 * n + i) → ρ .r ≤ 3
         small ρ is = rw is (third s (16 * n + i) (ready .small (16 * n + i) (omega arith)))
 
-    mask-is : newMasks dir s n ≡ substituted dir s n (d, m) .1
-    unfolding substituted
+    mask-is : newMasks dir s n ≡ maskedSubBytes dir s n (d, m) .1
+    unfolding maskedSubBytes
     mask-is = refl
 
-    pub went-all : i ≡ 16 → (D, M) ≡ substituted dir s n (d, m)
+    pub went-all : i ≡ 16 → (D, M) ≡ maskedSubBytes dir s n (d, m)
     went-all h =
         ap₂ (λ (x y : List ℕ). (x, y)) (front-done newData d D i (went .isD) (data-long ∙ sym hd) (omega arith))
         (front-done (newMasks dir s n) m M i (went .isM) (mask-long ∙ sym hm) (omega arith) ∙ mask-is)

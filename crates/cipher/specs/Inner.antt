@@ -25,30 +25,34 @@ pub record Ready (s : List ℕ) (n : ℕ) : Type 0 where
   pub small : (i : ℕ) → i < n → getD (recordPart s i) 2 0 ≤ 3
 
 -- every byte through its S-box, in round n of the work, from 0
-unfoldable pub substituted : Direction → List ℕ → ℕ → Parts → Parts
-substituted dir s n b =
+unfoldable pub maskedSubBytes : Direction → List ℕ → ℕ → Parts → Parts
+maskedSubBytes dir s n b =
     (state (λ r c. newByte dir (cell (b .0) r c) (cell (b .1) r c) (recordAt s (16 * n + (r + 4 * c)))), newMasks dir s n)
 
 -- the round key is added to the data only
-unfoldable pub keyed : List ℕ → ℕ → Parts → Parts
-keyed w round b = (addRoundKey (b .0) w round, b .1)
+unfoldable pub maskedAddRoundKey : List ℕ → ℕ → Parts → Parts
+maskedAddRoundKey w round b = (addRoundKey (b .0) w round, b .1)
 
 -- the columns are mixed in every round but the last
 unfoldable pub mixed : (List ℕ → List ℕ) → ℕ → ℕ → List ℕ → List ℕ
 mixed f n nr l = cond (eqb (suc n) nr) l (f l)
 
+-- what follows the round key when decrypting: the columns of this round, and the rows of the next
+unfoldable pub restored : List ℕ → List ℕ
+restored l = invShiftRows (invMixColumns l)
+
 -- the work of round n, from 0, of nr; and the parts after n rounds of nr, once a first round key is added
 module _ (w s : List ℕ) (nr : ℕ) where
   unfoldable pub roundWorked : ℕ → Parts → Parts
-  roundWorked n b = keyed w (suc n) (each (mixed mixColumns n nr) (each shiftRows (substituted Encrypt s n b)))
+  roundWorked n b = maskedAddRoundKey w (suc n) (each (mixed mixColumns n nr) (each shiftRows (maskedSubBytes Encrypt s n b)))
 
   unfoldable pub worked : ℕ → Parts → Parts
   worked zero b = b
   worked (suc n) b = roundWorked n (worked n b)
 
-  -- decrypting, the round keys are counted down
+  -- decrypting, the rows are back when a round begins, and the round keys are counted down
   unfoldable pub invRoundWorked : ℕ → Parts → Parts
-  invRoundWorked n b = each (mixed invMixColumns n nr) (keyed w (nr - suc n) (substituted Decrypt s n (each invShiftRows b)))
+  invRoundWorked n b = each (mixed restored n nr) (maskedAddRoundKey w (nr - suc n) (maskedSubBytes Decrypt s n b))
 
   unfoldable pub invWorked : ℕ → Parts → Parts
   invWorked zero b = b
@@ -56,5 +60,6 @@ module _ (w s : List ℕ) (nr : ℕ) where
 
 -- all rounds of a direction, the first round key added before them
 unfoldable pub workedIn : Direction → List ℕ → List ℕ → Parts → Parts
-workedIn Encrypt w s b = worked w s (roundsIn (length w)) (roundsIn (length w)) (keyed w 0 b)
-workedIn Decrypt w s b = invWorked w s (roundsIn (length w)) (roundsIn (length w)) (keyed w (roundsIn (length w)) b)
+workedIn Encrypt w s b = worked w s (roundsIn (length w)) (roundsIn (length w)) (maskedAddRoundKey w 0 b)
+workedIn Decrypt w s b =
+    invWorked w s (roundsIn (length w)) (roundsIn (length w)) (each invShiftRows (maskedAddRoundKey w (roundsIn (length w)) b))

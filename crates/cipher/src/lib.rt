@@ -7,10 +7,10 @@ ghost use lib.Dec.{eqb};
 ghost use Rattle.refusal.specs.Refusal.{failed};
 ghost use Rattle.refusal.specs.Answer.{first, done, refused, isNot, outcome};
 ghost use Rattle.strip.specs.Strip.{recordPart};
-ghost use Rattle.fips197.specs.Cipher.{mixColumns, invMixColumns};
+ghost use Rattle.fips197.specs.Cipher.{mixColumns, invShiftRows};
 ghost use Rattle.sbox.specs.declared.Direction.the-variants as way;
 ghost use Rattle.cipher.specs.Block.{roundsIn, checks, recordAt, blockOf};
-ghost use Rattle.cipher.specs.Inner.{Ready, substituted, keyed, mixed, roundWorked, worked, invRoundWorked, invWorked, workedIn};
+ghost use Rattle.cipher.specs.Inner.{Ready, each, maskedSubBytes, maskedAddRoundKey, mixed, restored, roundWorked, worked, invRoundWorked, invWorked, workedIn};
 use inversion::Masked;
 use refusal::Check;
 use refusal::Outcome;
@@ -65,7 +65,7 @@ fn substitute_bytes(
 )
     requires { ⌜ (length (now block) ≡ 16) × (length (now mask) ≡ 16) ⌝ }
     requires { ⌜ (round < 14) × Ready (now strip) (16 * round + 16) ⌝ }
-    ensures { λ _. ⌜ (now (block .exit), now (mask .exit)) ≡ substituted direction (now (strip .entry)) round (now (block .entry), now (mask .entry)) ⌝ }
+    ensures { λ _. ⌜ (now (block .exit), now (mask .exit)) ≡ maskedSubBytes direction (now (strip .entry)) round (now (block .entry), now (mask .entry)) ⌝ }
 {
     let mut position = 0;
     while position < 16 {
@@ -124,7 +124,7 @@ fn encrypt_round(
 fn encrypt_rounds(block: &mut [u8], mask: &mut [u8], round_keys: &[u8], strip: &[u8], rounds: usize)
     requires { ⌜ (length (now block) ≡ 16) × (length (now mask) ≡ 16) ⌝ }
     requires { ⌜ (rounds ≤ 14) × (Ready (now strip) (16 * rounds) × (16 * rounds + 16 ≤ length (now «round_keys»))) ⌝ }
-    ensures { λ _. ⌜ (now (block .exit), now (mask .exit)) ≡ worked (now («round_keys» .entry)) (now (strip .entry)) rounds rounds (keyed (now («round_keys» .entry)) 0 (now (block .entry), now (mask .entry))) ⌝ }
+    ensures { λ _. ⌜ (now (block .exit), now (mask .exit)) ≡ worked (now («round_keys» .entry)) (now (strip .entry)) rounds rounds (maskedAddRoundKey (now («round_keys» .entry)) 0 (now (block .entry), now (mask .entry))) ⌝ }
 {
     aes::add_round_key(block, round_keys, 0);
     let mut round = 0;
@@ -134,18 +134,20 @@ fn encrypt_rounds(block: &mut [u8], mask: &mut [u8], round_keys: &[u8], strip: &
     }
 }
 
-// Every round but the last mixes the columns of each part back.
-fn unmix(part: &mut [u8], round: usize, rounds: usize)
+// Every round but the last mixes the columns of each part back, and shifts back the rows, with which the next round begins.
+fn restore(part: &mut [u8], round: usize, rounds: usize)
     requires { ⌜ (length (now part) ≡ 16) × (round < 14) ⌝ }
-    ensures { λ _. ⌜ now (part .exit) ≡ mixed invMixColumns round rounds (now (part .entry)) ⌝ }
+    ensures { λ _. ⌜ now (part .exit) ≡ mixed restored round rounds (now (part .entry)) ⌝ }
 {
     if last(round, rounds) {
         return;
     }
     columns::inverse_mix_columns(part);
+    aes::inverse_shift_rows(part);
 }
 
-// A round of 5.3, on data and mask: the rows go back first, so that a record is that of the position after it. The round keys are counted down.
+// A round of 5.3, on data and mask, from its substitution to the rows of the next. The round keys are counted down.
+// Between the two parts stands the round key, so that no register goes from a mask byte to its data byte.
 fn decrypt_round(
     block: &mut [u8],
     mask: &mut [u8],
@@ -158,21 +160,21 @@ fn decrypt_round(
     requires { ⌜ (rounds ≤ 14) × ((round < rounds) × (Ready (now strip) (16 * round + 16) × (16 * rounds + 16 ≤ length (now «round_keys»)))) ⌝ }
     ensures { λ _. ⌜ (now (block .exit), now (mask .exit)) ≡ invRoundWorked (now («round_keys» .entry)) (now (strip .entry)) rounds round (now (block .entry), now (mask .entry)) ⌝ }
 {
-    aes::inverse_shift_rows(block);
-    aes::inverse_shift_rows(mask);
     substitute_bytes(Direction::Decrypt, block, mask, strip, round);
+    restore(mask, round, rounds);
     aes::add_round_key(block, round_keys, rounds - (round + 1));
-    unmix(block, round, rounds);
-    unmix(mask, round, rounds);
+    restore(block, round, rounds);
 }
 
-// 5.3 InvCipher on data and mask.
+// 5.3 InvCipher on data and mask: the rows go back before the substitution, so that a record is that of the position after it.
 fn decrypt_rounds(block: &mut [u8], mask: &mut [u8], round_keys: &[u8], strip: &[u8], rounds: usize)
     requires { ⌜ (length (now block) ≡ 16) × (length (now mask) ≡ 16) ⌝ }
     requires { ⌜ (rounds ≤ 14) × (Ready (now strip) (16 * rounds) × (16 * rounds + 16 ≤ length (now «round_keys»))) ⌝ }
-    ensures { λ _. ⌜ (now (block .exit), now (mask .exit)) ≡ invWorked (now («round_keys» .entry)) (now (strip .entry)) rounds rounds (keyed (now («round_keys» .entry)) rounds (now (block .entry), now (mask .entry))) ⌝ }
+    ensures { λ _. ⌜ (now (block .exit), now (mask .exit)) ≡ invWorked (now («round_keys» .entry)) (now (strip .entry)) rounds rounds (each invShiftRows (maskedAddRoundKey (now («round_keys» .entry)) rounds (now (block .entry), now (mask .entry)))) ⌝ }
 {
+    aes::inverse_shift_rows(mask);
     aes::add_round_key(block, round_keys, rounds);
+    aes::inverse_shift_rows(block);
     let mut done = 0;
     while done < rounds {
         decrypt_round(block, mask, round_keys, strip, done, rounds);

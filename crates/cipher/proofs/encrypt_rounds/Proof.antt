@@ -38,7 +38,7 @@ same-length-2 : tie.Need-same-length-2 Inv-loop μ-loop
 same-length-2 c = omega arith
 
 returns : tie.Need-returns Inv-loop μ-loop
-returns c = rounds-done _ _ _ _ _ _ _ _ _ _ (c .before .loop .inv) (omega arith) (omega arith) (omega arith) (c .before .before .before .before .add-round-key .ensures)
+returns c = rounds-done _ _ _ _ _ _ _ _ _ (c .before .loop .inv) (omega arith) (omega arith) (omega arith) (c .before .before .before .before .add-round-key .ensures)
 
 pub encrypt-rounds-spec : {M : Type 1} → statement M
 encrypt-rounds-spec =
