@@ -37,14 +37,6 @@ front-get [] (p ∷ P) i e h = absurd (omega arith)
 front-get (x ∷ X) (p ∷ P) zero e h = refl
 front-get (x ∷ X) (p ∷ P) (suc i) e h = front-get X P i (omega arith) (le-of-suc-le-suc h)
 
-pub front-length : (X P : List ℕ) (i : ℕ) → length X ≡ length P → length (front X P i) ≡ length P
-unfolding front
-front-length X P zero e = refl
-front-length [] [] (suc i) e = refl
-front-length [] (p ∷ P) (suc i) e = absurd (omega arith)
-front-length (x ∷ X) [] (suc i) e = absurd (omega arith)
-front-length (x ∷ X) (p ∷ P) (suc i) e = ap suc (front-length X P i (omega arith))
-
 pub front-all : (X P : List ℕ) (i : ℕ) → length X ≡ length P → i ≡ length P → front X P i ≡ X
 unfolding front
 front-all [] [] zero e h = refl
@@ -61,9 +53,6 @@ module _ (X P Q : List ℕ) (i : ℕ) (is : Q ≡ front X P i) (e : length X ≡
 
   pub front-here : i < length P → getD Q i 0 ≡ getD P i 0
   front-here h = rw is (front-get X P i e h)
-
-  pub front-long : length Q ≡ length P
-  front-long = rw is (front-length X P i e)
 
   pub front-done : i ≡ length P → Q ≡ X
   front-done h = is ∙ front-all X P i e h

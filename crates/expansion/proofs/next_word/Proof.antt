@@ -1,6 +1,6 @@
 -- `expansion::next_word` meets its contract: from the two words read and what is added. Assumes nothing.
 use borrow.Author.Needs.{needs}
-use Rattle.expansion.specs.Inner.{nextWord}
+use Rattle.expansion.proofs.Words.{next-made}
 use Rattle.expansion.proofs.next_word.Statement.{statement}
 use Rattle.expansion.proofs.next_word.Tie as tie
 
@@ -23,8 +23,7 @@ sum-requires : tie.Need-sum-requires
 sum-requires c κs = search needs
 
 returns : tie.Need-returns
-unfolding nextWord
-returns c = cc
+returns c = next-made _ _ _ _ _ _ _ (c .before .before .before .word .ensures) (c .before .before .word2 .ensures) (c .before .temp .ensures) (c .sum .ensures)
 
 pub next-word-spec : {M : Type 1} → statement M
 next-word-spec =

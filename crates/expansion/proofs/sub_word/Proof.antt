@@ -1,6 +1,6 @@
 -- `expansion::sub_word` meets its contract: from the four bytes substituted. Assumes nothing.
 use borrow.Author.Needs.{needs}
-use Rattle.fips197.specs.Cipher.{subWord}
+use Rattle.expansion.proofs.Words.{sub-made}
 use Rattle.expansion.proofs.sub_word.Statement.{statement}
 use Rattle.expansion.proofs.sub_word.Tie as tie
 
@@ -29,8 +29,7 @@ bare-requires-4 : tie.Need-bare-requires-4
 bare-requires-4 c κs = search needs
 
 returns : tie.Need-returns
-unfolding subWord
-returns c = cc
+returns c = sub-made _ _ _ _ _ (c .before .before .before .bare .ensures) (c .before .before .bare2 .ensures) (c .before .bare3 .ensures) (c .bare4 .ensures)
 
 pub sub-word-spec : {M : Type 1} → statement M
 sub-word-spec =

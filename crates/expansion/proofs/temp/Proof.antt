@@ -26,7 +26,7 @@ sum-requires : tie.Need-sum-requires
 sum-requires c κs = search needs
 
 returns : tie.Need-returns
-returns c = temp-turn _ _ _ _ (c .before .before .before .before .if1 .taken) (cc)
+returns c = temp-turn _ _ _ _ _ _ _ (c .before .before .before .before .if1 .taken) (c .before .before .before .rot-word .ensures) (c .before .before .sub-word .ensures) (c .before .round-constant .ensures) (c .sum .ensures)
 
 rem-if3 : tie.Need-rem-if3
 rem-if3 c = search needs
@@ -35,7 +35,7 @@ sub-word-requires-2 : tie.Need-sub-word-requires-2
 sub-word-requires-2 c κs = search needs
 
 returns-2 : tie.Need-returns-2
-returns-2 c = temp-again _ _ _ _ (c .before .before .before .if1 .left) (omega arith) (c .before .if3 .taken) (cc)
+returns-2 c = temp-again _ _ _ _ (c .before .before .before .if1 .left) (omega arith) (c .before .if3 .taken) (c .sub-word2 .ensures)
 
 returns-3 : tie.Need-returns-3
 returns-3 c =
