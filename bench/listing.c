@@ -23,16 +23,16 @@ static const double accepted_chance = 0.001;
  * be below 60. In a block one S-box call in EVERY is stepped through; the S-box cases step through all. */
 struct amounts {
     const char *word;
-    unsigned long sbox_pairs, points_pairs, block_pairs;
+    unsigned long sbox_pairs, block_pairs;
     unsigned sbox_secrets, every;
     size_t longest_key;
 };
-static const struct amounts all_amounts[] = {{"slice", 3000, 1500, 64, 1, 32, 16}, {"all", 3000, 3000, 300, 4, 8, 32}};
+static const struct amounts all_amounts[] = {{"slice", 3000, 64, 1, 32, 16}, {"all", 3000, 300, 4, 8, 32}};
 
 static struct tally tally;
 static uint64_t seed = 1;
 static unsigned long runs;
-static bool show_progress; /* one line that is written over and over, on a terminal alone */
+static bool terminal; /* where the progress is one line that is written over and over; elsewhere, a line for each case */
 
 /* No two calls have the same masks. Runs 0 and 1 of calls_fill are not random, so the numbers begin above. */
 static unsigned long next_run(void)
@@ -63,7 +63,7 @@ static unsigned long make_pairs(const struct listing_case *listing, const uint8_
             refused += make_call(listing, secrets, which) != SALCIVORN_DONE;
         }
         watch_end_pair();
-        if (show_progress && pair % 20 == 0)
+        if (terminal && pair % 20 == 0)
             fprintf(stderr, "\r%-36s%02x against %02x: %lu of %lu pairs  \r", listing->name, secrets[0], secrets[1],
                     pair, pairs);
     }
@@ -74,9 +74,7 @@ static unsigned long pairs_of(const struct listing_case *listing, const struct a
 {
     if (listing_known_bad(listing))
         return listing->bad_pairs;
-    if (listing->call->kind == BLOCK)
-        return amounts->block_pairs;
-    return listing->call->kind == SBOX ? amounts->sbox_pairs : amounts->points_pairs;
+    return listing->call->kind == BLOCK ? amounts->block_pairs : amounts->sbox_pairs;
 }
 
 static unsigned secrets_of(const struct listing_case *listing, const struct amounts *amounts)
@@ -106,6 +104,8 @@ static void run_case(const struct listing_case *listing, const struct amounts *a
     unsigned long refused = 0;
     bool one_way = true;
 
+    if (!terminal)
+        fprintf(stderr, "%zu of %d: %s\n", listing - listing_cases + 1, LISTING_CASES, listing->name);
     test_same(listing, every);
     table_begin();
     for (unsigned i = 0; i < secrets_of(listing, amounts); i++) {
@@ -132,9 +132,8 @@ static int run_all(const struct amounts *amounts, const char *word)
 {
     listing_prepare();
     step_prepare(watch_observe);
-    show_progress = isatty(STDERR_FILENO);
-    printf("S-box: %lu pairs of calls, %lu with points, for each of %u pairs of secrets\n", amounts->sbox_pairs,
-           amounts->points_pairs, amounts->sbox_secrets);
+    terminal = isatty(STDERR_FILENO);
+    printf("S-box: %lu pairs of calls for each of %u pairs of secrets\n", amounts->sbox_pairs, amounts->sbox_secrets);
     printf("block: %lu pairs of calls, one S-box in %u in steps\n\n", amounts->block_pairs, amounts->every);
     table_print_head();
     for (size_t i = 0; i < LISTING_CASES; i++)

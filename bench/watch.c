@@ -5,22 +5,22 @@
 #include <stdlib.h>
 #include <string.h>
 
-enum { PLACES = 1 << 18, TOUCHES = 1 << 23 };
+enum { STEPS = 1 << 17, TOUCHES = 1 << 23 };
 
-static struct step steps[PLACES / 2];
+static struct step steps[STEPS];
 static size_t step_count;
-static uint32_t places[PLACES];           /* a hash table of indices of steps, plus 1 */
-static uint64_t addresses[STEP_NUMBERS];  /* the first address that a step had */
+static uint32_t first_of[STEP_NUMBERS]; /* the index, plus 1, of the first step with a number */
 static bool one_way;
 static unsigned long pair;
 static int sign;
 
-/* The classes that the pair has touched, so that its end need not look at all of them. */
+/* The classes and the histograms that the pair has touched, so that its end need not look at all of them. */
 static struct touch {
     struct histogram *histogram;
-    uint32_t class;
+    struct class *class;
 } touches[TOUCHES];
-static size_t touch_count;
+static struct histogram *touched[TOUCHES];
+static size_t touch_count, touched_count;
 
 static void *allocate(size_t size)
 {
@@ -49,9 +49,8 @@ void watch_reset(void)
         for (size_t j = 0; j < REGISTER_COUNT; j++)
             forget(steps[i].registers[j]);
     memset(steps, 0, step_count * sizeof *steps);
-    memset(places, 0, sizeof places);
-    memset(addresses, 0, sizeof addresses);
-    step_count = touch_count = 0;
+    memset(first_of, 0, sizeof first_of);
+    step_count = touch_count = touched_count = 0;
     one_way = true;
     pair = 0;
 }
@@ -63,29 +62,35 @@ void watch_secret(int which)
 
 static struct step *find(uint32_t number, uint64_t address)
 {
-    size_t place = (address + number * UINT64_C(0x10001)) * UINT64_C(0x9e3779b97f4a7c15) >> 46;
+    uint32_t *place = &first_of[number];
 
-    while (places[place] != 0
-           && (steps[places[place] - 1].number != number || steps[places[place] - 1].address != address))
-        place = (place + 1) % PLACES;
-    if (places[place] == 0) {
-        if (step_count == PLACES / 2)
+    while (*place != 0 && steps[*place - 1].address != address)
+        place = &steps[*place - 1].next;
+    if (*place == 0) {
+        if (step_count == STEPS)
             abort();
+        one_way = one_way && first_of[number] == 0;
         steps[step_count].number = number;
         steps[step_count].address = address;
-        places[place] = (uint32_t)++step_count;
-        one_way = one_way && addresses[number] == 0;
-        addresses[number] = address;
+        *place = (uint32_t)++step_count;
     }
-    return &steps[places[place] - 1];
+    return &steps[*place - 1];
 }
 
-static void add(struct histogram *histogram, uint32_t class)
+/* A class whose difference is not 0 has been touched by this pair already. */
+static void add(struct histogram *histogram, uint32_t number)
 {
-    if (touch_count == TOUCHES)
-        abort();
-    touches[touch_count++] = (struct touch){histogram, class};
-    histogram->difference[class] = (int16_t)(histogram->difference[class] + sign);
+    struct class *class = &histogram->classes[number];
+
+    if (class->difference == 0) {
+        if (touch_count == TOUCHES)
+            abort();
+        touches[touch_count++] = (struct touch){histogram, class};
+    }
+    if (!histogram->touched)
+        touched[touched_count++] = histogram;
+    histogram->touched = true;
+    class->difference += sign;
 }
 
 /* The histogram, if it counts already; one that is to be begins with the next pair. */
@@ -100,28 +105,54 @@ static struct histogram *counting(struct sample *sample, int which, bool wanted)
     return *place != NULL && pair >= (*place)->from ? *place : NULL;
 }
 
-static void count(struct sample *sample, const uint64_t half[2], int bytes)
+static uint8_t byte_of(const uint64_t half[2], int i)
 {
-    int weight = __builtin_popcountll(half[0]) + __builtin_popcountll(half[1]), varying = 0;
+    return (uint8_t)(half[i / 8] >> i % 8 * 8);
+}
+
+static uint8_t fold(const uint64_t half[2])
+{
+    uint64_t all = half[0] ^ half[1];
+
+    all ^= all >> 32;
+    all ^= all >> 16;
+    return (uint8_t)(all ^ all >> 8);
+}
+
+/* The bytes of which at least one bit is set, a bit for each. */
+static uint32_t bytes_set(const uint64_t half[2])
+{
+    uint32_t set = 0;
+
+    for (int i = 0; i < 2; i++)
+        for (uint64_t rest = half[i]; rest != 0;) {
+            int byte = __builtin_ctzll(rest) / 8;
+
+            set |= 1u << (8 * i + byte);
+            rest &= ~(UINT64_C(0xff) << byte * 8);
+        }
+    return set;
+}
+
+static void count(struct sample *sample, const uint64_t half[2])
+{
     struct histogram *histogram;
-    uint8_t fold = 0;
 
     if (!sample->seen)
         memcpy(sample->first, half, sizeof sample->first);
     sample->seen = true;
-    if (sample->histograms[WEIGHT] == NULL && memcmp(sample->first, half, sizeof sample->first) == 0)
-        return;
-    for (int i = 0; i < bytes; i++) {
-        uint8_t byte = (uint8_t)(half[i / 8] >> i % 8 * 8), first = (uint8_t)(sample->first[i / 8] >> i % 8 * 8);
+    sample->varying |= bytes_set((const uint64_t[2]){half[0] ^ sample->first[0], half[1] ^ sample->first[1]});
+    for (uint32_t rest = sample->varying; rest != 0; rest &= rest - 1) {
+        int i = __builtin_ctz(rest);
 
-        if ((histogram = counting(sample, i, byte != first)) != NULL)
-            add(histogram, byte);
-        varying += sample->histograms[i] != NULL;
-        fold ^= byte;
+        if ((histogram = counting(sample, i, true)) != NULL)
+            add(histogram, byte_of(half, i));
     }
-    if ((histogram = counting(sample, FOLD, varying > 1)) != NULL)
-        add(histogram, fold);
-    if ((histogram = counting(sample, WEIGHT, varying > 0)) != NULL) {
+    if ((histogram = counting(sample, FOLD, (sample->varying & (sample->varying - 1)) != 0)) != NULL)
+        add(histogram, fold(half));
+    if ((histogram = counting(sample, WEIGHT, sample->varying != 0)) != NULL) {
+        int weight = __builtin_popcountll(half[0]) + __builtin_popcountll(half[1]);
+
         add(histogram, (uint32_t)weight);
         histogram->total_difference += sign * weight;
     }
@@ -132,59 +163,70 @@ static void observe(struct step *step, int place, const struct registers *before
     const uint64_t *old = before->half[place], *new = after->half[place];
     const uint64_t change[2] = {old[0] ^ new[0], old[1] ^ new[1]};
     struct watched *watched = step->registers[place];
-    int bytes = place < XMM ? 8 : 16;
 
-    if (watched != NULL && pair >= watched->from) {
-        count(&watched->samples[VALUE], new, bytes);
-        count(&watched->samples[TRANSITION], change, bytes);
-    } else if (watched == NULL && (change[0] | change[1]) != 0) {
+    if (watched == NULL) {
         step->registers[place] = allocate(sizeof *watched);
         step->registers[place]->from = pair + 1;
-        step->vectors = step->vectors || place >= XMM;
+        step->watches |= 1u << place;
+    } else if (pair >= watched->from) {
+        count(&watched->samples[VALUE], new);
+        count(&watched->samples[TRANSITION], change);
     }
 }
 
-/* Most steps leave the xmm registers alone, which are looked at only where one is watched or changes. */
+/* Most steps leave all xmm registers alone, which is told first. */
+static uint32_t changes(const struct registers *before, const struct registers *after)
+{
+    uint32_t changed = 0;
+    uint64_t vectors = 0;
+
+    for (int i = 0; i < XMM; i++)
+        changed |= (uint32_t)(before->half[i][0] != after->half[i][0]) << i;
+    for (int i = XMM; i < REGISTER_COUNT; i++)
+        vectors |= (before->half[i][0] ^ after->half[i][0]) | (before->half[i][1] ^ after->half[i][1]);
+    for (int i = XMM; vectors != 0 && i < REGISTER_COUNT; i++)
+        changed |= (uint32_t)(memcmp(before->half[i], after->half[i], sizeof before->half[i]) != 0) << i;
+    return changed;
+}
+
 void watch_observe(uint32_t number, uint64_t address, const struct registers *before, const struct registers *after)
 {
     struct step *step = find(number, address);
-    bool vectors = step->vectors || memcmp(before->half[XMM], after->half[XMM], sizeof before->half / 2) != 0;
+    uint32_t rest = step->watches | changes(before, after);
 
-    for (int place = 0; place < (vectors ? REGISTER_COUNT : XMM); place++)
-        observe(step, place, before, after);
+    for (; rest != 0; rest &= rest - 1)
+        observe(step, __builtin_ctz(rest), before, after);
 }
 
-/* A class may have been touched before in this pair; then its difference is 0 by now. */
-static void end_class(struct histogram *histogram, uint32_t class)
+static void end_class(struct histogram *histogram, struct class *class)
 {
-    int64_t difference = histogram->difference[class];
+    int64_t difference = class->difference;
 
-    histogram->growth += difference * histogram->sum[class];
-    histogram->sum[class] += (int32_t)difference;
-    histogram->squares[class] += (uint32_t)(difference * difference);
-    histogram->difference[class] = 0;
+    histogram->growth += difference * class->sum;
+    class->sum += class->difference;
+    class->squares += (uint32_t)(difference * difference);
+    class->difference = 0;
 }
 
-/* The same for a histogram: what it has grown by is 0 the second time. */
 static void end_histogram(struct histogram *histogram)
 {
-    double growth = (double)histogram->growth;
-
-    histogram->growth_sum += growth;
-    histogram->growth_squares += growth * growth;
+    histogram->growth_sum += histogram->growth;
+    histogram->growth_squares += (uint64_t)(histogram->growth * histogram->growth);
     histogram->growth = 0;
     histogram->total_sum += histogram->total_difference;
     histogram->total_squares += (uint64_t)(histogram->total_difference * histogram->total_difference);
     histogram->total_difference = 0;
+    histogram->touched = false;
 }
 
+/* A class may stand twice among those touched; the second time its difference is 0. */
 void watch_end_pair(void)
 {
     for (size_t i = 0; i < touch_count; i++)
         end_class(touches[i].histogram, touches[i].class);
-    for (size_t i = 0; i < touch_count; i++)
-        end_histogram(touches[i].histogram);
-    touch_count = 0;
+    for (size_t i = 0; i < touched_count; i++)
+        end_histogram(touched[i]);
+    touch_count = touched_count = 0;
     pair++;
 }
 
@@ -197,7 +239,7 @@ static int compare(const void *one, const void *other)
     return (left->number > right->number) - (left->number < right->number);
 }
 
-/* The hash table is out of order after this, so only watch_reset may follow. */
+/* The numbers lead to other steps after this, so only watch_reset may follow. */
 const struct step *watch_steps(size_t *number)
 {
     qsort(steps, step_count, sizeof *steps, compare);
@@ -217,9 +259,9 @@ bool watch_unmasked(const struct sample *sample)
         const struct histogram *histogram = sample->histograms[i];
 
         for (int class = 0; histogram != NULL && class < CLASS_COUNT; class++) {
-            int64_t sum = histogram->sum[class];
+            int64_t sum = histogram->classes[class].sum;
 
-            if ((uint64_t)(sum * sum) != histogram->squares[class] * (uint64_t)(pair - histogram->from))
+            if ((uint64_t)(sum * sum) != histogram->classes[class].squares * (uint64_t)(pair - histogram->from))
                 return false;
         }
     }
@@ -239,7 +281,7 @@ static void take(struct figure *figure, double found, const char *of)
 static double growth_figure(const struct histogram *histogram)
 {
     const double v = 100;
-    double sum = fmax(histogram->growth_sum, 0), squares = histogram->growth_squares + v;
+    double sum = fmax((double)histogram->growth_sum, 0), squares = (double)histogram->growth_squares + v;
 
     return sqrt(fmax(sum * sum / squares - log(squares / v), 0));
 }
@@ -248,11 +290,14 @@ static void take_histogram(struct figure *figure, const struct histogram *histog
 {
     bool compared = false;
 
-    for (int class = 0; class < CLASS_COUNT; class++)
-        if (histogram->squares[class] != 0) {
-            compared = true;
-            take(figure, fabs((double)histogram->sum[class]) / sqrt((double)histogram->squares[class]), of);
-        }
+    for (int i = 0; i < CLASS_COUNT; i++) {
+        const struct class *class = &histogram->classes[i];
+
+        if (class->squares == 0)
+            continue;
+        compared = true;
+        take(figure, fabs((double)class->sum) / sqrt((double)class->squares), of);
+    }
     if (compared)
         take(figure, growth_figure(histogram), "a histogram");
     if (histogram->total_squares != 0)

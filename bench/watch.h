@@ -34,19 +34,26 @@
  * first one in which it varies; the bytes added, once two bytes vary. */
 enum { FOLD = 16, WEIGHT = 17, HISTOGRAM_COUNT = 18, CLASS_COUNT = 256 };
 
+/* What one pair gave, and all of them: d, the sum of d and the sum of d*d. */
+struct class {
+    int32_t difference, sum;
+    uint32_t squares;
+};
+
 struct histogram {
     unsigned long from; /* the first pair that counts */
-    int16_t difference[CLASS_COUNT];
-    int32_t sum[CLASS_COUNT];
-    uint32_t squares[CLASS_COUNT];
-    int64_t growth; /* m of this pair */
-    double growth_sum, growth_squares;
+    bool touched;       /* by this pair */
+    int64_t growth;     /* m of this pair */
+    int64_t growth_sum;
+    uint64_t growth_squares;
     int64_t total_difference, total_sum; /* of the weights added up, as one class that counts many */
     uint64_t total_squares;
+    struct class classes[CLASS_COUNT];
 };
 
 struct sample {
     bool seen;
+    uint32_t varying; /* the bytes that have a histogram, a bit for each */
     uint64_t first[2];
     struct histogram *histograms[HISTOGRAM_COUNT];
 };
@@ -61,7 +68,8 @@ struct watched {
 
 struct step {
     uint32_t number;
-    bool vectors; /* an xmm register is watched */
+    uint32_t next;    /* the index, plus 1, of the next step with this number, or 0 */
+    uint32_t watches; /* the registers that are watched, a bit for each */
     uint64_t address;
     struct watched *registers[REGISTER_COUNT];
 };
