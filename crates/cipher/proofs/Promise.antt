@@ -4,18 +4,31 @@ use native.Mathlib.Omega.{arith}
 use mathlib.Core.Path.{_≡_, refl, ap, ap₂, _∙_}
 use mathlib.Core.List.{List}
 use lib.ListN.{length, getD}
+use Rattle.fips197.specs.Cipher.{_⊞_}
 use Rattle.refusal.specs.declared.Refusal.{Refusal}
 use Rattle.refusal.specs.declared.Outcome.{Outcome}
 use Rattle.refusal.specs.declared.Outcome.the-variants.{Done, Refused}
 use Rattle.refusal.specs.Answer.{Answer, done, refused, first, outcome}
 use Rattle.refusal.proofs.First.{all-passed, one-failed}
 use Rattle.strip.specs.Strip.{wiped}
+use Rattle.tower.specs.Claims.{Good}
 use Rattle.sbox.specs.declared.Direction.{Direction}
-use Rattle.cipher.specs.Block.{roundsIn, checks, blockOf}
+use Rattle.sbox.specs.declared.Direction.the-variants.{Encrypt, Decrypt}
+use Rattle.block_checks.specs.Checks.{roundsIn, checks}
+use Rattle.block_checks.proofs.Admitted.{Admitted, admitted}
+use Rattle.masked_rounds.specs.Outgoing.{recordAt, outgoing}
+use Rattle.masked_rounds.specs.Rounds.{Parts}
+use Rattle.masked_rounds.proofs.Bare.{encrypted, decrypted}
+use Rattle.cipher.specs.Block.{bareBlock, blockOf}
 use Rattle.cipher.specs.Inner.{Ready, workedIn}
 use Rattle.cipher.proofs.Records.{ready, all-good}
-use Rattle.cipher.proofs.Bare.{all-rounds}
-use Rattle.cipher.proofs.Admitted.{Admitted, admitted}
+
+-- the rounds of either direction
+all-rounds : (w s : List ℕ) → ((i : ℕ) → Good (recordAt s i)) → (d m D M : List ℕ) → length D ≡ 16 → length M ≡ 16 → (dir : Direction) → 0 < roundsIn (length w) → (D, M) ≡ workedIn dir w s (d, m)
+    → _≡_ {A = Parts} (D, M) (bareBlock dir w (d ⊞ m) ⊞ outgoing dir s (roundsIn (length w)), outgoing dir s (roundsIn (length w)))
+unfolding workedIn bareBlock
+all-rounds w s good d m D M h g Encrypt p e = encrypted w s good d m D M h g (roundsIn (length w)) p e
+all-rounds w s good d m D M h g Decrypt p e = decrypted w s good d m D M h g (roundsIn (length w)) p e
 
 module _ (d m w s : List ℕ) (v : Outcome) (e : outcome v ≡ first (checks (length d) (length m) (length w) s) refused (done tt)) where
   pub block-refused : (dir : Direction) (r : Refusal) → v ≡ Refused r → (outcome v, (d, (m, s))) ≡ blockOf dir d m w s

@@ -10,7 +10,7 @@ use Rattle.fips197.proofs.Below.{below-or-not}
 use Rattle.tower.specs.Claims.{Good}
 use Rattle.strip.specs.Strip.{recordPart}
 use Rattle.strip.proofs.Good.{Fit, past}
-use Rattle.cipher.specs.Block.{recordAt}
+use Rattle.masked_rounds.specs.Outgoing.{recordAt}
 use Rattle.cipher.specs.Inner.{Ready}
 
 -- a part of three bytes, as the reader hands it out

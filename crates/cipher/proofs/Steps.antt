@@ -13,8 +13,9 @@ use Rattle.aes.proofs.Chosen.{key-there}
 use Rattle.refusal.proofs.Part.{on-length as on-state}
 use Rattle.sbox.specs.declared.Direction.{Direction}
 use Rattle.sbox.specs.declared.Direction.the-variants.{Encrypt, Decrypt}
-use Rattle.cipher.specs.Block.{roundsIn}
-use Rattle.cipher.specs.Inner.{Parts, Ready, each, maskedSubBytes, maskedAddRoundKey, mixed, restored, roundWorked, worked, invRoundWorked, invWorked, workedIn}
+use Rattle.block_checks.specs.Checks.{roundsIn}
+use Rattle.masked_rounds.specs.Rounds.{Parts, each, maskedSubBytes, maskedAddRoundKey, mixed, restored, roundWorked, worked, invRoundWorked, invWorked}
+use Rattle.cipher.specs.Inner.{Ready, workedIn}
 
 on : (f : List ℕ → List ℕ) (l x : List ℕ) → length l ≡ 16 → x ≡ aes.onState f l → x ≡ f l
 on f l x h e = e ∙ sym (on-state f l (f l) h refl)

@@ -19,8 +19,9 @@ use Rattle.inversion.specs.Answers.{byteAndMask}
 use Rattle.sbox.specs.declared.Direction.{Direction}
 use Rattle.sbox.specs.Sbox.{newByte, newMask}
 use Rattle.sbox.specs.Sbox as sbox
-use Rattle.cipher.specs.Block.{recordAt, newMasks}
-use Rattle.cipher.specs.Inner.{Ready, maskedSubBytes}
+use Rattle.masked_rounds.specs.Outgoing.{recordAt, newMasks}
+use Rattle.masked_rounds.specs.Rounds.{maskedSubBytes}
+use Rattle.cipher.specs.Inner.{Ready}
 use Rattle.cipher.proofs.Records.{third}
 
 -- ---- one byte

@@ -1,46 +1,21 @@
 // The masked block calls: every check first, then the rounds of FIPS 197 on data and mask, then the strip is wiped.
 ghost use mathlib.Core.Path.{_≡_};
-ghost use mathlib.Core.Bool.{_||_};
 ghost use Prim.Native.Nat.{suc, _<_, _≤_, _+_, _*_};
 ghost use lib.ListN.{length};
 ghost use lib.Dec.{eqb};
-ghost use Rattle.refusal.specs.Refusal.{failed};
-ghost use Rattle.refusal.specs.Answer.{first, done, refused, isNot, outcome};
+ghost use Rattle.refusal.specs.Answer.{outcome};
 ghost use Rattle.strip.specs.Strip.{recordPart};
 ghost use Rattle.fips197.specs.Cipher.{mixColumns, invShiftRows};
 ghost use Rattle.sbox.specs.declared.Direction.the-variants as way;
-ghost use Rattle.cipher.specs.Block.{roundsIn, checks, recordAt, blockOf};
-ghost use Rattle.cipher.specs.Inner.{Ready, each, maskedSubBytes, maskedAddRoundKey, mixed, restored, roundWorked, worked, invRoundWorked, invWorked, workedIn};
+ghost use Rattle.block_checks.specs.Checks.{roundsIn};
+ghost use Rattle.masked_rounds.specs.Outgoing.{recordAt};
+ghost use Rattle.masked_rounds.specs.Rounds.{each, maskedSubBytes, maskedAddRoundKey, mixed, restored, roundWorked, worked, invRoundWorked, invWorked};
+ghost use Rattle.cipher.specs.Block.{blockOf};
+ghost use Rattle.cipher.specs.Inner.{Ready, workedIn};
 use inversion::Masked;
-use refusal::Check;
 use refusal::Outcome;
-use refusal::Refusal;
 use sbox::Direction;
 use tower::Record;
-
-// 6
-fn check_sixteen(block: usize, mask: usize) -> Check
-    ensures { λ c. ⌜ failed c ≡ (isNot 16 block || isNot 16 mask) ⌝ }
-{
-    let Check::Passed = refusal::check_length(block, 16) else {
-        return Check::Failed;
-    };
-    refusal::check_length(mask, 16)
-}
-
-// Every refusal of a block call, from the lengths of its parts and the strip, of which nothing can be changed here.
-fn check(block: usize, mask: usize, round_keys: usize, strip: &[u8]) -> Outcome
-    ensures { λ v. ⌜ outcome v ≡ first (checks block mask «round_keys» (now (strip .entry))) refused (done tt) ⌝ }
-{
-    let Check::Passed = check_sixteen(block, mask) else {
-        return Outcome::Refused(Refusal::Buffer(6));
-    };
-    let Check::Passed = refusal::check_lengths(round_keys, 176, 208, 240) else {
-        return Outcome::Refused(Refusal::Buffer(5));
-    };
-    let rounds = round_keys / 16 - 1;
-    strip::check(strip, (4 * (rounds - 6)) as u8)
-}
 
 // A record, read from the part of the strip where it stands.
 fn record_at(strip: &[u8], index: usize) -> Record
@@ -205,7 +180,7 @@ pub fn serve(
 ) -> Outcome
     ensures { λ v. ⌜ (outcome v, (now (block .exit), (now (mask .exit), now (strip .exit)))) ≡ blockOf direction (now (block .entry)) (now (mask .entry)) (now («round_keys» .entry)) (now (strip .entry)) ⌝ }
 {
-    let checked = check(block.len(), mask.len(), round_keys.len(), strip);
+    let checked = block_checks::check(block.len(), mask.len(), round_keys.len(), strip);
     let Outcome::Done = checked else {
         return checked;
     };

@@ -17,7 +17,9 @@ use Rattle.strip.specs.Strip.{formOf, wiped}
 use Rattle.sbox.specs.declared.Direction.{Direction}
 use Rattle.sbox.specs.declared.Direction.the-variants.{Encrypt, Decrypt}
 use Rattle.expansion.specs.Expansion.{keyWords, keyRounds, wrongKey, wrongBuffer, expansionOf}
-use Rattle.cipher.specs.Block.{roundsIn, keySizeIn, checks, newMasks, outgoing, bareBlock, blockOf}
+use Rattle.block_checks.specs.Checks.{roundsIn, keySizeIn, checks}
+use Rattle.masked_rounds.specs.Outgoing.{newMasks, outgoing}
+use Rattle.cipher.specs.Block.{bareBlock, blockOf}
 use Rattle.demand2.specs.Claims as claims
 
 abbrev words : List ℕ → List ℕ

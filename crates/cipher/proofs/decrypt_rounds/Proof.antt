@@ -3,7 +3,7 @@ use native.Mathlib.Omega.{arith}
 use borrow.Author.Needs.{needs}
 use Prim.Native.Nat.{_-_}
 use Rattle.cipher.proofs.Steps.{Past, inv-worked-none, inv-worked-more, ready-for, inv-rounds-done}
-use Rattle.cipher.specs.Inner.{invWorked}
+use Rattle.masked_rounds.specs.Rounds.{invWorked}
 use Rattle.cipher.proofs.decrypt_rounds.Statement.{statement}
 use Rattle.cipher.proofs.decrypt_rounds.Tie as tie
 

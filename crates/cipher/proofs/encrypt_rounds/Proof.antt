@@ -3,7 +3,7 @@ use native.Mathlib.Omega.{arith}
 use Prim.Native.Nat.{_-_}
 use borrow.Author.Needs.{needs}
 use Rattle.cipher.proofs.Steps.{Past, worked-none, worked-more, ready-for, rounds-done}
-use Rattle.cipher.specs.Inner.{worked}
+use Rattle.masked_rounds.specs.Rounds.{worked}
 use Rattle.cipher.proofs.encrypt_rounds.Statement.{statement}
 use Rattle.cipher.proofs.encrypt_rounds.Tie as tie
 

@@ -1,9 +1,9 @@
--- `cipher::check` meets its contract: from the answers of the checks, in their order. Assumes nothing.
+-- `block_checks::check` meets its contract: from the answers of the checks, in their order. Assumes nothing.
 use borrow.Author.Needs.{needs}
 use Rattle.refusal.proofs.First.{first-stop, first-on}
-use Rattle.cipher.proofs.Admitted.{keys-there, rounds-there, size-fits}
-use Rattle.cipher.proofs.check.Statement.{statement}
-use Rattle.cipher.proofs.check.Tie as tie
+use Rattle.block_checks.proofs.Admitted.{keys-there, rounds-there, size-fits}
+use Rattle.block_checks.proofs.check.Statement.{statement}
+use Rattle.block_checks.proofs.check.Tie as tie
 
 check-sixteen-requires : tie.Need-check-sixteen-requires
 check-sixteen-requires c κs = search needs

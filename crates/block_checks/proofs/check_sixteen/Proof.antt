@@ -1,8 +1,8 @@
--- `cipher::check_sixteen` meets its contract: from the answers of the two checks. Assumes nothing.
+-- `block_checks::check_sixteen` meets its contract: from the answers of the two checks. Assumes nothing.
 use borrow.Author.Needs.{needs}
 use Rattle.refusal.proofs.First.{either-first, either-second}
-use Rattle.cipher.proofs.check_sixteen.Statement.{statement}
-use Rattle.cipher.proofs.check_sixteen.Tie as tie
+use Rattle.block_checks.proofs.check_sixteen.Statement.{statement}
+use Rattle.block_checks.proofs.check_sixteen.Tie as tie
 
 check-length-requires : tie.Need-check-length-requires
 check-length-requires c κs = search needs

@@ -13,7 +13,7 @@ use Rattle.refusal.specs.Answer.{done, refused, first, isNot, noneOf, outcome}
 use Rattle.refusal.proofs.First.{found, passes-first, call-passes, passed-is, neither}
 use Rattle.strip.specs.Strip.{blockChecks}
 use Rattle.strip.proofs.Good.{Fit, good}
-use Rattle.cipher.specs.Block.{keySizeIn, checks}
+use Rattle.block_checks.specs.Checks.{keySizeIn, checks}
 
 -- round keys of 176, 208 or 240 bytes
 pub record Sizes (w : ℕ) : Type 0 where

@@ -8,11 +8,10 @@ use borrow.Author.Tests.{eq-eqb, ne-eqb}
 use Rattle.fips197.specs.Cipher.{_⊞_, cell, sbox, subBytes, shiftRows, mixColumns, roundKey, addRoundKey, rounds, cipher, invSbox, invShiftRows, invSubBytes, invMixColumns, invRounds, invCipher}
 use Rattle.fips197.proofs.State.{plus-assoc, plus-comm, plus-off, cell-plus, state-plus, state-ext, Linear, shift-linear, inv-shift-linear, mix-linear, inv-mix-linear}
 use Rattle.tower.specs.Claims.{Good}
-use Rattle.sbox.specs.declared.Direction.{Direction}
 use Rattle.sbox.specs.declared.Direction.the-variants.{Encrypt, Decrypt}
 use Rattle.sbox.proofs.Claims.{box-is-right}
-use Rattle.cipher.specs.Block.{roundsIn, recordAt, newMasks, outgoing, bareBlock}
-use Rattle.cipher.specs.Inner.{Parts, each, maskedSubBytes, maskedAddRoundKey, mixed, restored, roundWorked, worked, invRoundWorked, invWorked, workedIn}
+use Rattle.masked_rounds.specs.Outgoing.{recordAt, newMasks, outgoing}
+use Rattle.masked_rounds.specs.Rounds.{Parts, each, maskedSubBytes, maskedAddRoundKey, mixed, restored, roundWorked, worked, invRoundWorked, invWorked}
 
 before : (k : ℕ) → k ≡ suc k - 1
 before k = omega arith
@@ -119,16 +118,10 @@ remasked b t m h g e f =
     ap₂ (λ (x y : List ℕ). (x, y)) (sym (plus-off (b .0) (b .1) (omega arith)) ∙ ap₂ _⊞_ e f) f
 
 module _ (w s : List ℕ) (good : (i : ℕ) → Good (recordAt s i)) (d m D M : List ℕ) (h : length D ≡ 16) (g : length M ≡ 16) where
-  encrypted : (nr : ℕ) → 0 < nr → (D, M) ≡ worked w s nr nr (maskedAddRoundKey w 0 (d, m)) → _≡_ {A = Parts} (D, M) (cipher nr w (d ⊞ m) ⊞ outgoing Encrypt s nr, outgoing Encrypt s nr)
+  pub encrypted : (nr : ℕ) → 0 < nr → (D, M) ≡ worked w s nr nr (maskedAddRoundKey w 0 (d, m)) → _≡_ {A = Parts} (D, M) (cipher nr w (d ⊞ m) ⊞ outgoing Encrypt s nr, outgoing Encrypt s nr)
   encrypted zero p e = absurd (omega arith)
   encrypted (suc k) p e = remasked (D, M) _ _ h g (ap bare e ∙ last-bare w s good k (d, m)) (ap (λ (b : Parts). b .1) e ∙ last-mask w s good k _)
 
-  decrypted : (nr : ℕ) → 0 < nr → (D, M) ≡ invWorked w s nr nr (each invShiftRows (maskedAddRoundKey w nr (d, m))) → _≡_ {A = Parts} (D, M) (invCipher nr w (d ⊞ m) ⊞ outgoing Decrypt s nr, outgoing Decrypt s nr)
+  pub decrypted : (nr : ℕ) → 0 < nr → (D, M) ≡ invWorked w s nr nr (each invShiftRows (maskedAddRoundKey w nr (d, m))) → _≡_ {A = Parts} (D, M) (invCipher nr w (d ⊞ m) ⊞ outgoing Decrypt s nr, outgoing Decrypt s nr)
   decrypted zero p e = absurd (omega arith)
   decrypted (suc k) p e = remasked (D, M) _ _ h g (ap bare e ∙ inv-last-bare w s good k (d, m)) (ap (λ (b : Parts). b .1) e ∙ inv-last-mask w s good k _)
-
-  pub all-rounds : (dir : Direction) → 0 < roundsIn (length w) → (D, M) ≡ workedIn dir w s (d, m)
-      → _≡_ {A = Parts} (D, M) (bareBlock dir w (d ⊞ m) ⊞ outgoing dir s (roundsIn (length w)), outgoing dir s (roundsIn (length w)))
-  unfolding workedIn bareBlock
-  all-rounds Encrypt p e = encrypted (roundsIn (length w)) p e
-  all-rounds Decrypt p e = decrypted (roundsIn (length w)) p e
