@@ -1,1 +1,3 @@
-pub mod Made
+mod Lookups
+mod Made
+mod Recorded

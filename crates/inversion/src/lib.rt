@@ -7,8 +7,6 @@ use refusal::Check;
 use refusal::Refusal;
 use tower::Record;
 
-mod machine;
-
 // A masked byte and its mask, or a refusal.
 pub enum Masked {
     Byte(u8, u8),
@@ -29,7 +27,7 @@ pub fn invert(masked: u8, mask: u8, record: Record) -> Masked
     let Check::Passed = check_record(record) else {
         return Masked::Refused(Refusal::Operand(2));
     };
-    let inverse = machine::invert(masked, mask, record);
+    let inverse = cells::invert(masked, mask, record);
     Masked::Byte(inverse, record.s)
 }
 
@@ -43,6 +41,6 @@ pub fn invert_points(masked: u8, mask: u8, record: Record, points: &mut [u8]) ->
     let Check::Passed = check_record(record) else {
         return Masked::Refused(Refusal::Operand(2));
     };
-    let inverse = machine::invert_points(masked, mask, record, points);
+    let inverse = cells::invert_points(masked, mask, record, points);
     Masked::Byte(inverse, record.s)
 }

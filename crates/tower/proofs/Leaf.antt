@@ -16,7 +16,6 @@ use Rattle.fips197.proofs.Below.{eq1, eq2}
 use Rattle.fips197.proofs.Xor.{assoc, zero-r, lt}
 use Rattle.refusal.specs.Answer.{Answer, done, refused, first}
 use Rattle.tower.specs.Tower.{tower, hi, lo, join, scaledSquare, exchange, normOver, productOver, inverseOver, bitProduct, pairProduct, nibbleProduct, added}
-use Rattle.tower.specs.Low.{entry, row, pairRow}
 use Rattle.tower.specs.Claims.{FieldLaws}
 use Rattle.tower.proofs.Split.{lo-lt, lo-small}
 
@@ -29,15 +28,15 @@ join-made k h l p =
 
 -- ---- products: a computed test over the operands of the level, of which alone a product sees anything
 
-hi-cut : (k x : ℕ) → hi k (x % 2 ^ (k + k)) ≡ hi k x
+pub hi-cut : (k x : ℕ) → hi k (x % 2 ^ (k + k)) ≡ hi k x
 unfolding hi
 hi-cut k x = ap (λ (y : ℕ). y % 2 ^ k) (Pow.field x k k) ∙ mod-mod (x / 2 ^ k) (2 ^ k)
 
-lo-cut : (k x : ℕ) → lo k (x % 2 ^ (k + k)) ≡ lo k x
+pub lo-cut : (k x : ℕ) → lo k (x % 2 ^ (k + k)) ≡ lo k x
 unfolding lo
 lo-cut k x = mod-mod-pow x k k
 
-product-cut : (k : ℕ) (times : ℕ → ℕ → ℕ) (nu x y : ℕ) → productOver k times nu (x % 2 ^ (k + k)) (y % 2 ^ (k + k)) ≡ productOver k times nu x y
+pub product-cut : (k : ℕ) (times : ℕ → ℕ → ℕ) (nu x y : ℕ) → productOver k times nu (x % 2 ^ (k + k)) (y % 2 ^ (k + k)) ≡ productOver k times nu x y
 unfolding productOver
 product-cut k times nu x y = simp (hi-cut, lo-cut)
 
@@ -72,54 +71,6 @@ pair-square-made = eq1 256 (λ x. bitXor (x / 2 % 2 * 3) (x % 2)) (scaledSquare 
 pub nibble-square-made : (x : ℕ) → x < 256 → bitXor (bitXor (bitXor (x % 2 * 11) (x / 2 % 2 * 6)) (x / 4 % 2 * 8)) (x / 8 % 2 * 4) ≡ scaledSquare nibbleProduct 1 x
 unfolding tower field
 nibble-square-made = eq1 256 (λ x. bitXor (bitXor (bitXor (x % 2 * 11) (x / 2 % 2 * 6)) (x / 4 % 2 * 8)) (x / 8 % 2 * 4)) (scaledSquare nibbleProduct 1) tt
-
--- ---- lookups
-
-entry-cut : (w y : ℕ) → entry w (y % 16) ≡ entry w y
-unfolding entry
-entry-cut w y = rw (mod-mod y 16) refl
-
-row-cut : (x : ℕ) → row (x % 16) ≡ row x
-unfolding row
-row-cut x = rw (mod-mod x 16) refl
-
-pub entry-lt : (w y : ℕ) → entry w y < 256
-unfolding entry
-entry-lt w y = let h = mod-lt (w / 2 ^ (63 - y % 16 * 4)) (zero-lt-suc 15) in omega arith
-
--- number y of the row of x is the product of x and y
-pub entry-row : (x y : ℕ) → entry (row x) y ≡ nibbleProduct x y
-unfolding tower field entry row
-entry-row x y =
-    sym (ap (λ (w : ℕ). entry w y) (row-cut x)) ∙ sym (entry-cut (row (x % 16)) y)
-    ∙ eq2 16 16 (λ v w. entry (row v) w) nibbleProduct tt (x % 16) (y % 16) (mod-lt x (zero-lt-suc 15)) (mod-lt y (zero-lt-suc 15)) ∙ product-cut 2 pairProduct 2 x y
-
-pair-row-cut : (x : ℕ) → pairRow (x % 4) ≡ pairRow x
-unfolding pairRow
-pair-row-cut x = rw (mod-mod x 4) refl
-
--- number y of the row of x is the product of x and y
-pub pair-entry : (x y : ℕ) → entry (pairRow x) (y % 4) ≡ pairProduct x y
-unfolding tower field entry pairRow
-pair-entry x y =
-    sym (ap (λ (w : ℕ). entry w (y % 4)) (pair-row-cut x))
-    ∙ eq2 4 4 (λ v w. entry (pairRow v) w) pairProduct tt (x % 4) (y % 4) (mod-lt x (zero-lt-suc 3)) (mod-lt y (zero-lt-suc 3)) ∙ product-cut 1 bitProduct 1 x y
-
-pub nibble-square-entry : (x : ℕ) → entry 0x5b6c1f2a794e3d08 x ≡ scaledSquare nibbleProduct 1 x
-unfolding tower field entry
-nibble-square-entry x =
-    sym (entry-cut 0x5b6c1f2a794e3d08 x) ∙ eq1 16 (entry 0x5b6c1f2a794e3d08) (scaledSquare nibbleProduct 1) tt (x % 16) (mod-lt x (zero-lt-suc 15)) ∙ ap (nibbleProduct 1) (product-cut 2 pairProduct 2 x x)
-
-pub pair-square-bits : (x : ℕ) → bitXor (x % 4) (x % 4 / 2) ≡ scaledSquare pairProduct 2 x
-unfolding tower field
-pair-square-bits x = eq1 4 (λ v. bitXor v (v / 2)) (scaledSquare pairProduct 2) tt (x % 4) (mod-lt x (zero-lt-suc 3)) ∙ ap (pairProduct 2) (product-cut 1 bitProduct 1 x x)
-
-pub pair-square-lt : (x : ℕ) → bitXor (x % 4) (x % 4 / 2) < 256
-pair-square-lt x = xor-lt 8 (x % 4) (x % 4 / 2) (omega arith) (omega arith)
-
-pub exchange-bits : (x : ℕ) → x % 4 * 5 / 2 % 4 ≡ exchange x
-unfolding tower field
-exchange-bits x = eq1 4 (λ v. v * 5 / 2 % 4) exchange tt (x % 4) (mod-lt x (zero-lt-suc 3)) ∙ ap₂ (join 1) (lo-cut 1 x) (hi-cut 1 x)
 
 -- ---- one level's product and inverse, from what the calls on its halves answer
 

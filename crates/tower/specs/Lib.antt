@@ -1,4 +1,3 @@
 pub mod Tower
 pub mod Answers
 pub mod Claims
-pub mod Low

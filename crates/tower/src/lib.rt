@@ -11,9 +11,8 @@ ghost use Rattle.tower.specs.Answers.{element};
 use refusal::Check;
 use refusal::Refusal;
 
-pub mod halves;
-pub mod lookup;
-pub mod low;
+mod halves;
+mod low;
 
 // A pair or a nibble, or the refusal of an operand.
 pub enum Element {

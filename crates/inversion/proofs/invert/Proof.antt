@@ -1,7 +1,7 @@
 -- `inversion::invert` meets its contract: from the check's answer and the inner computation. Assumes nothing.
 use borrow.Author.Needs.{needs}
 use Rattle.refusal.proofs.First.{first-stop, first-on, first-done}
-use Rattle.cells.proofs.Made.{answer}
+use Rattle.inversion.proofs.Answered.{answer}
 use Rattle.inversion.proofs.invert.Statement.{statement}
 use Rattle.inversion.proofs.invert.Tie as tie
 
