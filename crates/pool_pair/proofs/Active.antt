@@ -27,7 +27,8 @@ use Rattle.pool_checks.specs.Checks.{addChecks, takeChecks}
 use Rattle.pool_fits.specs.Fits.{notApplied}
 use Rattle.pool_sending.specs.Outstanding.{messageOf}
 use Rattle.pool_standby.specs.Calls.{applyOf}
-use Rattle.pool_active.specs.Calls.{addOf, takeOf, acknowledgeOf, settle, handing, handingNone}
+use Rattle.pool_adding.specs.Adding.{addOf}
+use Rattle.pool_taking.specs.Taking.{takeOf, acknowledgeOf, settle, handing, handingNone}
 use Rattle.pool_pair.specs.Pair.{Cabinet, afterAdd, afterHanding, afterApply, add, takeOut, acknowledge, apply, sentIn, outstanding, poolIn, outIn, activeIn, messageIn, messagesIn}
 use Rattle.pool_pair.specs.Claims.{Messages, refused16}
 use Rattle.pool_pair.proofs.Rooms.{Filled, first-cleared}

@@ -24,7 +24,8 @@ use Rattle.pool_master.specs.Master.{usedUp, sending}
 use Rattle.pool_rooms.specs.Rooms.{roomAt, filled, cleared, stripIn}
 use Rattle.pool_checks.specs.Checks.{addChecks, takeChecks}
 use Rattle.pool_standby.specs.Calls.{goAloneOf}
-use Rattle.pool_active.specs.Calls.{addOf, takeOf, handing, handingNone}
+use Rattle.pool_adding.specs.Adding.{addOf}
+use Rattle.pool_taking.specs.Taking.{takeOf, handing, handingNone}
 use Rattle.pool_pair.specs.Pair.{Cabinet, afterAdd, afterHanding, afterAlone, add, takeOut, goAlone, poolIn, standbyIn}
 use Rattle.pool_pair.proofs.Rooms.{Filled}
 use Rattle.pool_pair.proofs.Bytes.{own-good}

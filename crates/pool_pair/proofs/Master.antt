@@ -23,7 +23,7 @@ use Rattle.pool_state.specs.State.{stateIn, stateBytes, sent, gone, neverSent, 
 use Rattle.pool_rooms.specs.Rooms.{roomAt, padded, filled, cleared, stripIn}
 use Rattle.pool_checks.specs.Checks.{notLent, notLentWith, notLentOut, isAcknowledgement}
 use Rattle.pool_sending.specs.Outstanding.{messageOf, outstandingOf}
-use Rattle.pool_active.specs.Calls.{acknowledgeOf}
+use Rattle.pool_taking.specs.Taking.{acknowledgeOf}
 use Rattle.pool_pair.specs.Pair.{Cabinet, handedIn, afterHanding, acknowledge, sentIn, outstanding, heldIn, poolIn, numberIn}
 use Rattle.pool_pair.specs.Claims.{refused16}
 use Rattle.pool_pair.proofs.Rooms.{Filled, next-filled, first-cleared, filled-here, filled-held, cleared-held, held-length, held-more}

@@ -18,7 +18,7 @@ use Rattle.pool_mirror.specs.Mirror.{most, Strips, Said, Event, adds-strip, tak
 use Rattle.pool_mirror.proofs.Pools.{all-append, all-at}
 use Rattle.pool_state.specs.State as roles
 use Rattle.pool_state.specs.State.{stateIn, gone}
-use Rattle.pool_active.specs.Calls.{addOf}
+use Rattle.pool_adding.specs.Adding.{addOf}
 use Rattle.pool_pair.specs.Pair.{Cabinet, Cabinets, told, afterAdd, add, takeOut, acknowledge, apply, applyAt, goAlone, outstanding, sentBack, nextNumber, withActive, withAdded, withSent, withStandby, withAddedAlone, withTakenAlone, arrived, came, ranStep, bare, begin, ran, poolIn, outIn, activeIn, standbyIn, messagesIn, numbersIn, standsFor, heldIn}
 use Rattle.pool_pair.specs.Claims.{rules, Means, Messages, Acknowledgements}
 use Rattle.pool_pair.proofs.Rooms.{by-bool, none-filled}

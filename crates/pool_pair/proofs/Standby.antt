@@ -29,7 +29,7 @@ use Rattle.pool_fits.specs.Fits as fitted
 use Rattle.pool_fits.specs.Fits.{isMessage}
 use Rattle.pool_standby.specs.Calls.{applyOf}
 use Rattle.pool_sending.specs.Outstanding.{messageOf}
-use Rattle.pool_active.specs.Calls.{acknowledgeOf, handingNone}
+use Rattle.pool_taking.specs.Taking.{acknowledgeOf, handingNone}
 use Rattle.pool_pair.specs.Pair.{Cabinet, afterHanding, afterApply, acknowledge, applyAt, apply, outstanding, sentBack, heldIn, poolIn, standbyIn, messageIn, numbersIn}
 use Rattle.pool_pair.specs.Claims.{Means, Acknowledgements, refused16}
 use Rattle.pool_pair.proofs.Rooms.{by-bool, Filled, held-length}

@@ -18,7 +18,8 @@ use Rattle.pool_state.specs.State.{stateIn, sent}
 use Rattle.pool_rooms.specs.Rooms.{roomsSize, roomAt, stripIn}
 use Rattle.pool_sending.specs.Outstanding.{outstandingOf}
 use Rattle.pool_standby.specs.Calls.{applyOf, goAloneOf}
-use Rattle.pool_active.specs.Calls.{addOf, takeOf, acknowledgeOf}
+use Rattle.pool_adding.specs.Adding.{addOf}
+use Rattle.pool_taking.specs.Taking.{takeOf, acknowledgeOf}
 
 -- what the host of a master keeps for it, as bytes
 pub record Cabinet : Type 0 where

@@ -1,5 +1,5 @@
 // Plays a script over two masters of the mirrored pool, an active one and its standby, and the link between them: a line of output for each step, and at the end how many strips' numbers were handed out and how many of them twice.
-// words.rt has the words of a script. What this prints is tested; proved is that it ends and never reaches outside a buffer. What the calls do is proved in pool_active, pool_standby and pool_sending.
+// words.rt has the words of a script. What this prints is tested; proved is that it ends and never reaches outside a buffer. What the calls do is proved in pool_adding, pool_taking, pool_standby and pool_sending.
 mod link;
 mod masters;
 mod report;

@@ -88,7 +88,7 @@ pub fn add(master: Master, key_size: u8, made: u32) -> Master
     let mut rooms = master.rooms;
     let strip = make_strip(key_size, made);
     let size = size_of(key_size);
-    let answer = pool_active::add(&mut state, &mut rooms, &strip[..size]);
+    let answer = pool_adding::add(&mut state, &mut rooms, &strip[..size]);
     let mut next = master;
     next.state = state;
     next.rooms = rooms;
@@ -101,7 +101,7 @@ pub fn take(master: Master) -> Master {
     let mut rooms = master.rooms;
     let mut number = [0u8; 4];
     let mut strip = [0u8; 676];
-    let answer = pool_active::take(&mut state, &mut rooms, &mut number, &mut strip);
+    let answer = pool_taking::take(&mut state, &mut rooms, &mut number, &mut strip);
     let mut next = master;
     next.state = state;
     next.rooms = rooms;
@@ -117,7 +117,7 @@ pub fn acknowledge(master: Master, item: [u8; 688]) -> Master {
     let mut rooms = master.rooms;
     let mut number = [0u8; 4];
     let mut strip = [0u8; 676];
-    let answer = pool_active::acknowledge(
+    let answer = pool_taking::acknowledge(
         &mut state,
         &mut rooms,
         &item[..size],

@@ -3,13 +3,14 @@ ghost use mathlib.Core.Path.{_≡_};
 ghost use Rattle.refusal.specs.Answer.{numbered};
 ghost use Rattle.pool_sending.specs.Outstanding.{outstandingOf};
 ghost use Rattle.pool_standby.specs.Calls.{applyOf, goAloneOf};
-ghost use Rattle.pool_active.specs.Calls.{addOf, takeOf, acknowledgeOf};
+ghost use Rattle.pool_adding.specs.Adding.{addOf};
+ghost use Rattle.pool_taking.specs.Taking.{takeOf, acknowledgeOf};
 
 #[no_mangle]
 pub extern "C" fn salcivorn_pool_add(state: &mut [u8], rooms: &mut [u8], strip: &[u8]) -> u32
     ensures { λ n. ⌜ (n, (now (state .exit), now (rooms .exit))) ≡ numbered (addOf (now (state .entry)) (now (rooms .entry)) (now (strip .entry))) ⌝ }
 {
-    refusal::outcome_number(pool_active::add(state, rooms, strip))
+    refusal::outcome_number(pool_adding::add(state, rooms, strip))
 }
 
 #[no_mangle]
@@ -21,7 +22,7 @@ pub extern "C" fn salcivorn_pool_take(
 ) -> u32
     ensures { λ n. ⌜ (n, (now (state .exit), (now (rooms .exit), (now (number .exit), now (strip .exit))))) ≡ numbered (takeOf (now (state .entry)) (now (rooms .entry)) (now (number .entry)) (now (strip .entry))) ⌝ }
 {
-    refusal::outcome_number(pool_active::take(state, rooms, number, strip))
+    refusal::outcome_number(pool_taking::take(state, rooms, number, strip))
 }
 
 #[no_mangle]
@@ -41,7 +42,7 @@ pub extern "C" fn salcivorn_pool_acknowledge(
 ) -> u32
     ensures { λ n. ⌜ (n, (now (state .exit), (now (rooms .exit), (now (number .exit), now (strip .exit))))) ≡ numbered (acknowledgeOf (now (state .entry)) (now (rooms .entry)) (now (acknowledgement .entry)) (now (number .entry)) (now (strip .entry))) ⌝ }
 {
-    refusal::outcome_number(pool_active::acknowledge(state, rooms, acknowledgement, number, strip))
+    refusal::outcome_number(pool_taking::acknowledge(state, rooms, acknowledgement, number, strip))
 }
 
 #[no_mangle]
