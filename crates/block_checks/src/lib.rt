@@ -29,5 +29,5 @@ pub fn check(block: usize, mask: usize, round_keys: usize, strip: &[u8]) -> Outc
         return Outcome::Refused(Refusal::Buffer(5));
     };
     let rounds = round_keys / 16 - 1;
-    strip::check(strip, (4 * (rounds - 6)) as u8)
+    strip_checks::check(strip, (4 * (rounds - 6)) as u8)
 }

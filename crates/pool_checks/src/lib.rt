@@ -47,7 +47,7 @@ fn check_lent_out(state: &[u8], rooms: usize, number: usize, strip: usize) -> Ch
 fn check_strip(master: State, strip: &[u8]) -> Outcome
     ensures { λ r. ⌜ outcome r ≡ first (ownChecks (now (strip .entry)) ++ ((14, noRoom master) ∷ [])) refused (done tt) ⌝ }
 {
-    let own = strip::check_own(strip);
+    let own = strip_checks::check_own(strip);
     let Outcome::Done = own else {
         return own;
     };

@@ -15,7 +15,7 @@ use refusal::Outcome;
 fn fits_adding(master: State, number: u32, strip: &[u8]) -> bool
     ensures { λ r. ⌜ r ≡ fits master (sort.Adds 0 number) (now (strip .entry)) ⌝ }
 {
-    let Outcome::Done = strip::check_own(strip) else {
+    let Outcome::Done = strip_checks::check_own(strip) else {
         return false; // of bad form
     };
     if pool_state::wide(master.taken) + 64 <= pool_state::wide(master.added) {

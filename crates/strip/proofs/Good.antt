@@ -4,7 +4,8 @@ use mathlib.Core.Path.{_≡_, refl, sym, ap, _∙_}
 use mathlib.Core.List.{List, [], _∷_}
 use mathlib.Core.Bool.{Bool, true, false, not, _&&_, _||_}
 use native.Mathlib.Omega.{arith}
-use lib.ListN.{length, getD, take, drop}
+use lib.ListN.{length, getD, take, drop, length-drop}
+use lib.Seq.{getD-drop, drop-drop}
 use lib.Dec.{eqb}
 use borrow.Author.Tests.{lt-ltb, le-ltb, ltb-false, eqb-true, not-false}
 use Rattle.refusal.specs.Answer.{Answer, done, refused, first, above, outcome, passes}
@@ -14,7 +15,6 @@ use Rattle.refusal.specs.declared.Outcome.{Outcome}
 use Rattle.refusal.specs.declared.Outcome.the-variants.{Done, Refused}
 use Rattle.refusal.proofs.First.{clash, neither, both-true, passes-first, call-passes, found, front-failed, front-passed}
 use Rattle.strip.specs.Strip.{version, keySize, recordBytes, sameForm, badFraming, spent, unknownVersion, wrongRecordBytes, badThird, badRecord, checkList, blockChecks, ownChecks, wholeRecord, recordPart}
-use Rattle.strip.proofs.Laws.{third-at}
 
 pub record Fit (s : List ℕ) (size : ℕ) : Type 0 where
   pub long : 4 ≤ length s
@@ -23,6 +23,24 @@ pub record Fit (s : List ℕ) (size : ℕ) : Type 0 where
   pub bytes : recordBytes s ≡ 12 * size + 288
   pub there : (i : ℕ) → 4 + 3 * i + 3 ≤ length s → recordPart s i ≡ take 3 (drop (4 + 3 * i) s)
   pub small : (i : ℕ) → 4 + 3 * i + 3 ≤ length s → getD s (4 + 3 * i + 2) 0 ≤ 3
+
+-- the records, one more at a time
+third-first : (l : List ℕ) → 3 ≤ length l → badThird l ≡ (above 3 (getD l 2 0) || badThird (drop 3 l))
+unfolding badThird
+third-first [] h = absurd (omega arith)
+third-first (a ∷ []) h = absurd (omega arith)
+third-first (a ∷ b ∷ []) h = absurd (omega arith)
+third-first (a ∷ b ∷ third ∷ l) h = refl
+
+pub third-none : (l : List ℕ) → length l < 3 → badThird l ≡ false
+unfolding badThird
+third-none [] h = refl
+third-none (a ∷ []) h = refl
+third-none (a ∷ b ∷ []) h = refl
+third-none (a ∷ b ∷ third ∷ l) h = absurd (omega arith)
+
+pub third-at : (s : List ℕ) (i : ℕ) → 4 + 3 * i + 3 ≤ length s → badThird (drop (4 + 3 * i) s) ≡ (above 3 (getD s (4 + 3 * i + 2) 0) || badThird (drop (4 + 3 * i + 3) s))
+third-at s i h = rw (← getD-drop (4 + 3 * i) s 2 0, ← drop-drop 3 (4 + 3 * i) s) (third-first (drop (4 + 3 * i) s) (omega (arith, length-drop (4 + 3 * i) s)))
 
 -- one of three, where not none
 one-of : (a b c : Bool) {P : Type 0} → not (a || (b || (c || false))) ≡ false → (a ≡ true → P) → (b ≡ true → P) → (c ≡ true → P) → P

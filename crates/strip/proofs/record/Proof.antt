@@ -21,7 +21,7 @@ returns : tie.Need-returns
 returns c = search first-stop
 
 check-version-requires : tie.Need-check-version-requires
-check-version-requires c κs = search framed
+check-version-requires c κs = search needs
 
 enum-told-3 : tie.Need-enum-told-3
 enum-told-3 c = search needs
@@ -36,7 +36,7 @@ returns-2 : tie.Need-returns-2
 returns-2 c = search (first-on, first-stop)
 
 check-unspent-requires : tie.Need-check-unspent-requires
-check-unspent-requires c κs = search framed
+check-unspent-requires c κs = search needs
 
 enum-told-5 : tie.Need-enum-told-5
 enum-told-5 c = search needs

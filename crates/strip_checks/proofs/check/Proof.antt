@@ -1,8 +1,8 @@
--- `strip::check` meets its contract: from the key size held against that of the round keys, and the checks in their order. Assumes nothing.
+-- `strip_checks::check` meets its contract: from the key size held against that of the round keys, and the checks in their order. Assumes nothing.
 use borrow.Author.Needs.{needs}
-use Rattle.strip.proofs.Laws.{for-block}
-use Rattle.strip.proofs.check.Statement.{statement}
-use Rattle.strip.proofs.check.Tie as tie
+use Rattle.strip_checks.proofs.Laws.{for-block}
+use Rattle.strip_checks.proofs.check.Statement.{statement}
+use Rattle.strip_checks.proofs.check.Tie as tie
 
 key-size-of-requires : tie.Need-key-size-of-requires
 key-size-of-requires c κs = search needs

@@ -1,8 +1,8 @@
--- `strip::check_record_bytes` meets its contract: from the version and the key size, for each form. Assumes nothing.
+-- `strip_checks::check_record_bytes` meets its contract: from the version and the key size, for each form. Assumes nothing.
 use borrow.Author.Needs.{needs}
-use Rattle.strip.proofs.Laws.{bytes-version, bytes-16, bytes-24, bytes-32, bytes-other}
-use Rattle.strip.proofs.check_record_bytes.Statement.{statement}
-use Rattle.strip.proofs.check_record_bytes.Tie as tie
+use Rattle.strip_checks.proofs.Laws.{bytes-version, bytes-16, bytes-24, bytes-32, bytes-other}
+use Rattle.strip_checks.proofs.check_record_bytes.Statement.{statement}
+use Rattle.strip_checks.proofs.check_record_bytes.Tie as tie
 
 shared-slice-read-version : tie.Need-shared-slice-read-version
 shared-slice-read-version c = search needs

@@ -1,10 +1,10 @@
--- `strip::check_all` meets its contract: from the answers of the six checks, one after the other. Assumes nothing.
+-- `strip_checks::check_all` meets its contract: from the answers of the six checks, one after the other. Assumes nothing.
 use mathlib.Core.Path.{refl}
 use borrow.Author.Needs.{needs}
 use Rattle.refusal.proofs.First.{first-stop, first-on, first-done}
 use Rattle.strip.proofs.Laws.{framed}
-use Rattle.strip.proofs.check_all.Statement.{statement}
-use Rattle.strip.proofs.check_all.Tie as tie
+use Rattle.strip_checks.proofs.check_all.Statement.{statement}
+use Rattle.strip_checks.proofs.check_all.Tie as tie
 
 check-framing-requires : tie.Need-check-framing-requires
 check-framing-requires c κs = search needs
@@ -19,7 +19,7 @@ returns : tie.Need-returns
 returns c = first-stop _ _ _ _ _ _ _ (c .before .before .check-framing .ensures) (c .enum-told2 .given .1) refl
 
 check-unspent-requires : tie.Need-check-unspent-requires
-check-unspent-requires c κs = framed _ _ (c .before .before .check-framing .ensures) (c .enum-told .given .1)
+check-unspent-requires c κs = search needs
 
 enum-told-3 : tie.Need-enum-told-3
 enum-told-3 c = search needs
@@ -31,7 +31,7 @@ returns-2 : tie.Need-returns-2
 returns-2 c = first-on _ _ _ _ _ _ _ (c .before .before .before .before .before .check-framing .ensures) (c .before .before .before .enum-told .given .1) (first-stop _ _ _ _ _ _ _ (c .before .before .check-unspent .ensures) (c .enum-told4 .given .1) refl)
 
 check-version-requires : tie.Need-check-version-requires
-check-version-requires c κs = framed _ _ (c .before .before .before .before .before .check-framing .ensures) (c .before .before .before .enum-told .given .1)
+check-version-requires c κs = search needs
 
 enum-told-5 : tie.Need-enum-told-5
 enum-told-5 c = search needs

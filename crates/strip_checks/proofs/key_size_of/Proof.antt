@@ -1,10 +1,10 @@
--- `strip::key_size_of` meets its contract: from the length, and the byte widened. Assumes nothing.
+-- `strip_checks::key_size_of` meets its contract: from the length, and the byte widened. Assumes nothing.
 use mathlib.Core.Path.{sym}
 use native.Mathlib.Omega.{arith}
 use lib.ListN.{List·getD-eq-default}
 use borrow.Author.Needs.{needs}
-use Rattle.strip.proofs.key_size_of.Statement.{statement}
-use Rattle.strip.proofs.key_size_of.Tie as tie
+use Rattle.strip_checks.proofs.key_size_of.Statement.{statement}
+use Rattle.strip_checks.proofs.key_size_of.Tie as tie
 
 returns : tie.Need-returns
 returns c = sym (List·getD-eq-default (c .before .args .strip .now) 0 {n = 3} (omega arith))

@@ -1,8 +1,8 @@
--- `strip::check_own` meets its contract: from the key size looked for among the three, and the checks in their order. Assumes nothing.
+-- `strip_checks::check_own` meets its contract: from the key size looked for among the three, and the checks in their order. Assumes nothing.
 use borrow.Author.Needs.{needs}
-use Rattle.strip.proofs.Laws.{for-none-yet}
-use Rattle.strip.proofs.check_own.Statement.{statement}
-use Rattle.strip.proofs.check_own.Tie as tie
+use Rattle.strip_checks.proofs.Laws.{for-none-yet}
+use Rattle.strip_checks.proofs.check_own.Statement.{statement}
+use Rattle.strip_checks.proofs.check_own.Tie as tie
 
 key-size-of-requires : tie.Need-key-size-of-requires
 key-size-of-requires c κs = search needs

@@ -1,12 +1,12 @@
--- `strip::check_records` meets its contract: the loop's invariant: the records passed are not bad, so the rest decides. Assumes nothing.
+-- `strip_checks::check_records` meets its contract: the loop's invariant: the records passed are not bad, so the rest decides. Assumes nothing.
 use mathlib.Core.Path.{_≡_, refl}
 use Prim.Native.Nat.{_+_, _*_, _/_, _≤_, _-_}
 use native.Mathlib.Omega.{arith}
 use lib.ListN.{drop, length}
 use Rattle.strip.specs.Strip.{badRecord, badThird}
-use Rattle.strip.proofs.Laws.{third-stop, third-on, third-all}
-use Rattle.strip.proofs.check_records.Statement.{statement}
-use Rattle.strip.proofs.check_records.Tie as tie
+use Rattle.strip_checks.proofs.Laws.{third-stop, third-on, third-all}
+use Rattle.strip_checks.proofs.check_records.Statement.{statement}
+use Rattle.strip_checks.proofs.check_records.Tie as tie
 
 abbrev Inv-loop : tie.InvT-loop
 Inv-loop strip count index₀ index = (index ≤ (length strip - 4) / 3) × (badRecord strip ≡ badThird (drop (4 + 3 * index) strip))
