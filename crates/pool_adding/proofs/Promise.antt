@@ -14,8 +14,9 @@ use Rattle.pool_state.specs.declared.State.{State}
 use Rattle.pool_state.specs.State.{stateIn, stateBytes, oneMore}
 use Rattle.pool_master.specs.Master.{waiting, usedUp, noRoom, isStandby, sending}
 use Rattle.pool_rooms.specs.Rooms.{roomsSize, filled}
-use Rattle.pool_checks.specs.Checks.{notLent, addChecks}
-use Rattle.pool_checks.proofs.Admitted.{lent-is}
+use Rattle.pool_lent.specs.Lent.{notLent}
+use Rattle.pool_checks.specs.Checks.{addChecks}
+use Rattle.pool_lent.proofs.Lent.{lent-is}
 use Rattle.pool_adding.specs.Adding.{added}
 
 pub added-so : (m : State) (role : ℕ) (rooms s st′ rooms′ : List ℕ) → st′ ≡ stateBytes (record { role = role; added = m .added + 1; taken = m .taken }) → rooms′ ≡ filled rooms (m .added) s → (st′, rooms′) ≡ added m role rooms s

@@ -1,72 +1,27 @@
--- The checks of the calls: what they answer, and what a call may rely on when all have passed. Assumes nothing.
-use Prim.Native.Nat.{ℕ, _+_, _≤_, _<_}
-use native.Mathlib.Omega.{arith}
+-- What the checks of the calls answer. Assumes nothing.
+use Prim.Native.Nat.{ℕ, _≤_, _<_}
 use mathlib.Core.Path.{_≡_, refl, sym, ap, _∙_}
 use mathlib.Core.List.{List, [], _∷_, _++_}
-use mathlib.Core.Bool.{Bool, true, false, _&&_, _||_}
-use lib.ListN.{length, drop}
-use lib.Dec.{eqb, ltb}
-use borrow.Author.Tests.{ltb-false, eqb-false, lt-ltb, le-ltb, eq-eqb, ne-eqb}
+use mathlib.Core.Bool.{Bool, true, false, _||_}
+use lib.ListN.{drop}
+use lib.Dec.{ltb}
+use borrow.Author.Tests.{lt-ltb, le-ltb}
 use Rattle.refusal.specs.Refusal.{refusal, failed}
-use Rattle.refusal.specs.Answer.{Answer, done, refused, first, above, isNot, outcome}
+use Rattle.refusal.specs.Answer.{Answer, done, refused, first, outcome}
 use Rattle.refusal.specs.declared.Refusal.{Refusal}
 use Rattle.refusal.specs.declared.Check.{Check}
 use Rattle.refusal.specs.declared.Check.the-variants.{Passed, Failed}
 use Rattle.refusal.specs.declared.Outcome.{Outcome}
 use Rattle.refusal.specs.declared.Outcome.the-variants.{Done, Refused}
-use Rattle.refusal.proofs.First.{passed-is, first-now, first-skip, first-done, either-first, either-second, neither, front-failed, front-passed}
+use Rattle.refusal.proofs.First.{first-now, first-skip, first-done, either-first, either-second, front-failed, front-passed}
 use Rattle.strip.specs.Strip.{ownChecks, ownFormOf}
 use Rattle.pool_message.specs.Message.{readOf}
 use Rattle.pool_state.specs.declared.State.{State}
-use Rattle.pool_state.specs.State.{stateIn, gone, neverSent, sentTooMuch, impossible, noState}
+use Rattle.pool_state.specs.State.{stateIn, noState}
 use Rattle.pool_master.specs.Master.{waiting, usedUp, noRoom, noneHeld, isStandby}
-use Rattle.pool_rooms.specs.Rooms.{roomsSize}
 use Rattle.pool_fits.specs.Fits.{notApplied}
-use Rattle.pool_checks.specs.Checks.{notLent, notLentWith, notLentOut, goAloneChecks}
+use Rattle.pool_checks.specs.Checks.{goAloneChecks}
 use Rattle.pool_checks.specs.Inner.{senderOf}
-
--- ---- what a lent state and lent rooms are
-pub record Lent (st : List ℕ) (rooms : ℕ) : Type 0 where
-  pub nine : length st ≡ 9
-  pub sized : rooms ≡ roomsSize
-  -- a master that sends has a sum of 32 bits
-  pub counted : (stateIn st .role ≡ 4 → ⊥) → stateIn st .added + stateIn st .taken ≤ 4294967295
-  -- and one whose addition is outstanding has added
-  pub begun : stateIn st .role ≡ 1 → 0 < stateIn st .added
-
-pub lent-is : (st : List ℕ) (rooms : ℕ) → notLent st rooms ≡ false → Lent st rooms
-unfolding notLent noState impossible sentTooMuch neverSent
-lent-is st rooms e =
-    let m : State = stateIn st in
-    let n = neither (noState st) (isNot roomsSize rooms) e in
-    let o = neither (isNot 9 (length st)) (impossible m) (n .0) in
-    let p = neither (above 4 (m .role)) _ (o .1) in
-    let q = neither (ltb (m .added) (m .taken)) _ (p .1) in
-    let r = neither (above (gone m + 64) (m .added)) _ (q .1) in
-    let s = neither (neverSent m) (sentTooMuch m) (r .1) in
-    let t = neither (eqb (m .role) 1 && eqb (m .added) (m .taken)) _ (s .0) .0 in
-    record {
-      nine = passed-is 9 (length st) Passed (sym (o .0)) refl;
-      sized = passed-is roomsSize rooms Passed (sym (n .1)) refl;
-      counted = λ h. ltb-false 4294967295 (m .added + m .taken) (let u : isNot 4 (m .role) ≡ true = rw (ne-eqb (m .role) 4 h) refl in sym (rw u refl) ∙ s .1);
-      begun = λ h. let other : m .added ≡ m .taken → ⊥ = eqb-false (m .added) (m .taken) (sym (rw (eq-eqb (m .role) 1 h) refl) ∙ t) in omega (arith, other, ltb-false (m .added) (m .taken) (q .0));
-    }
-
-pub lent-with : (size : ℕ) (st : List ℕ) (rooms part : ℕ) → notLentWith size st rooms part ≡ false → Lent st rooms × (part ≡ size)
-unfolding notLentWith
-lent-with size st rooms part e = let n = neither (notLent st rooms) (isNot size part) e in (lent-is st rooms (n .0), passed-is size part Passed (sym (n .1)) refl)
-
-pub record LentOut (st : List ℕ) (rooms number strip : ℕ) : Type 0 where
-  pub master : Lent st rooms
-  pub four : number ≡ 4
-  pub room : strip ≡ 676
-
-pub lent-out-is : (st : List ℕ) (rooms number strip : ℕ) → notLentOut st rooms number strip ≡ false → LentOut st rooms number strip
-unfolding notLentOut
-lent-out-is st rooms number strip e =
-    let n = neither (notLentWith 4 st rooms number) (isNot 676 strip) e in
-    let l = lent-with 4 st rooms number (n .0) in
-    record { master = l .0; four = l .1; room = passed-is 676 strip Passed (sym (n .1)) refl }
 
 -- ---- a strip, then whether there is room
 module _ (m : State) (s : List ℕ) (x : Outcome) (e : outcome x ≡ ownFormOf s) where

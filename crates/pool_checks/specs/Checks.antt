@@ -4,25 +4,14 @@ use mathlib.Core.List.{List, [], _∷_, _++_}
 use mathlib.Core.Bool.{Bool, true, false, not, _||_}
 use lib.ListN.{drop}
 use lib.Dec.{ltb}
-use Rattle.refusal.specs.Answer.{isNot}
 use Rattle.strip.specs.Strip.{ownChecks}
-use Rattle.pool_rooms.specs.Rooms.{roomsSize}
 use Rattle.pool_message.specs.Message.{readOf}
 use Rattle.pool_message.specs.declared.Message.{Message}
 use Rattle.pool_message.specs.declared.Message.the-variants.{Adds, Takes, Acknowledges, Unreadable}
 use Rattle.pool_state.specs.State.{standby, stateIn, noState}
 use Rattle.pool_master.specs.Master.{waiting, usedUp, noRoom, noneHeld, isStandby}
+use Rattle.pool_lent.specs.Lent.{notLent, notLentWith, notLentOut}
 use Rattle.pool_fits.specs.Fits.{notApplied}
-
--- 6, rule 7.10: state or rooms not lent as they must be; or a further part not of its size; for a strip handed out, its number not as four bytes or the strip not as 676
-unfoldable pub notLent : List ℕ → ℕ → Bool
-notLent st rooms = noState st || isNot roomsSize rooms
-
-unfoldable pub notLentWith : ℕ → List ℕ → ℕ → ℕ → Bool
-notLentWith size st rooms part = notLent st rooms || isNot size part
-
-unfoldable pub notLentOut : List ℕ → ℕ → ℕ → ℕ → Bool
-notLentOut st rooms number strip = notLentWith 4 st rooms number || isNot 676 strip
 
 -- ---- adding, which a standby does not: 23 and 24, then the strip's own, then 14
 abbrev pub addChecks : List ℕ → ℕ → List ℕ → List (ℕ × Bool)

@@ -6,42 +6,12 @@ ghost use Rattle.refusal.specs.Refusal.{failed};
 ghost use Rattle.refusal.specs.Answer.{done, refused, first, outcome};
 ghost use Rattle.strip.specs.Strip.{ownChecks};
 ghost use Rattle.pool_master.specs.Master.{noRoom};
-ghost use Rattle.pool_checks.specs.Checks.{notLent, notLentWith, notLentOut, addChecks, takeChecks, outstandingChecks, isAcknowledgement, acknowledgeChecks, applyChecks, goAloneChecks};
+ghost use Rattle.pool_checks.specs.Checks.{addChecks, takeChecks, outstandingChecks, isAcknowledgement, acknowledgeChecks, applyChecks, goAloneChecks};
 ghost use Rattle.pool_checks.specs.Inner.{senderOf};
 use pool_message::Message;
 use pool_state::State;
 use refusal::Check;
 use refusal::Outcome;
-
-// 6
-fn check_lent(state: &[u8], rooms: usize) -> Check
-    ensures { λ c. ⌜ failed c ≡ notLent (now (state .entry)) rooms ⌝ }
-{
-    let Check::Passed = pool_state::check(state) else {
-        return Check::Failed;
-    };
-    refusal::check_length(rooms, 43264)
-}
-
-// 6, with a further part that has one size
-fn check_lent_with(size: usize, state: &[u8], rooms: usize, part: usize) -> Check
-    ensures { λ c. ⌜ failed c ≡ notLentWith size (now (state .entry)) rooms part ⌝ }
-{
-    let Check::Passed = check_lent(state, rooms) else {
-        return Check::Failed;
-    };
-    refusal::check_length(part, size)
-}
-
-// 6, for a strip that is handed out
-fn check_lent_out(state: &[u8], rooms: usize, number: usize, strip: usize) -> Check
-    ensures { λ c. ⌜ failed c ≡ notLentOut (now (state .entry)) rooms number strip ⌝ }
-{
-    let Check::Passed = check_lent_with(4, state, rooms, number) else {
-        return Check::Failed;
-    };
-    refusal::check_length(strip, 676)
-}
 
 // The strip's own refusals, then 14.
 fn check_strip(master: State, strip: &[u8]) -> Outcome
@@ -74,7 +44,7 @@ pub fn add(state: &[u8], rooms: usize, strip: &[u8]) -> Outcome
     ensures { λ r. ⌜ outcome r ≡ first (addChecks (now (state .entry)) rooms (now (strip .entry))) refused (done tt) ⌝ }
 {
     let master = pool_state::read(state);
-    let sender = check_sender(check_lent(state, rooms), master);
+    let sender = check_sender(pool_lent::check_lent(state, rooms), master);
     let Outcome::Done = sender else {
         return sender;
     };
@@ -85,7 +55,10 @@ pub fn take(state: &[u8], rooms: usize, number: usize, strip: usize) -> Outcome
     ensures { λ r. ⌜ outcome r ≡ first (takeChecks (now (state .entry)) rooms number strip) refused (done tt) ⌝ }
 {
     let master = pool_state::read(state);
-    let sender = check_sender(check_lent_out(state, rooms, number, strip), master);
+    let sender = check_sender(
+        pool_lent::check_lent_out(state, rooms, number, strip),
+        master,
+    );
     let Outcome::Done = sender else {
         return sender;
     };
@@ -98,7 +71,7 @@ pub fn take(state: &[u8], rooms: usize, number: usize, strip: usize) -> Outcome
 pub fn outstanding(state: &[u8], rooms: usize, message: usize) -> Outcome
     ensures { λ r. ⌜ outcome r ≡ first (outstandingChecks (now (state .entry)) rooms message) refused (done tt) ⌝ }
 {
-    let Check::Passed = check_lent_with(688, state, rooms, message) else {
+    let Check::Passed = pool_lent::check_lent_with(688, state, rooms, message) else {
         return refusal::buffer(6);
     };
     Outcome::Done
@@ -124,7 +97,7 @@ pub fn acknowledge(
 ) -> Outcome
     ensures { λ r. ⌜ outcome r ≡ first (acknowledgeChecks (now (state .entry)) rooms (now (acknowledgement .entry)) number strip) refused (done tt) ⌝ }
 {
-    let Check::Passed = check_lent_out(state, rooms, number, strip) else {
+    let Check::Passed = pool_lent::check_lent_out(state, rooms, number, strip) else {
         return refusal::buffer(6);
     };
     let Check::Passed = check_acknowledgement(pool_message::read(acknowledgement)) else {
@@ -136,7 +109,7 @@ pub fn acknowledge(
 pub fn apply(state: &[u8], rooms: usize, message: &[u8], acknowledgement: usize) -> Outcome
     ensures { λ r. ⌜ outcome r ≡ first (applyChecks (now (state .entry)) rooms (now (message .entry)) acknowledgement) refused (done tt) ⌝ }
 {
-    let Check::Passed = check_lent_with(8, state, rooms, acknowledgement) else {
+    let Check::Passed = pool_lent::check_lent_with(8, state, rooms, acknowledgement) else {
         return refusal::buffer(6);
     };
     let Check::Passed = pool_fits::check_message(pool_state::read(state), message) else {

@@ -21,7 +21,8 @@ use Rattle.pool_state.specs.State as roles
 use Rattle.pool_master.specs.Master as master
 use Rattle.pool_state.specs.State.{stateIn, stateBytes, sent, gone, neverSent, sentTooMuch, impossible, noState, oneMore, oneTaken}
 use Rattle.pool_rooms.specs.Rooms.{roomAt, padded, filled, cleared, stripIn}
-use Rattle.pool_checks.specs.Checks.{notLent, notLentWith, notLentOut, isAcknowledgement}
+use Rattle.pool_lent.specs.Lent.{notLent, notLentWith, notLentOut}
+use Rattle.pool_checks.specs.Checks.{isAcknowledgement}
 use Rattle.pool_sending.specs.Outstanding.{messageOf, outstandingOf}
 use Rattle.pool_taking.specs.Taking.{acknowledgeOf}
 use Rattle.pool_pair.specs.Pair.{Cabinet, handedIn, afterHanding, acknowledge, sentIn, outstanding, heldIn, poolIn, numberIn}

@@ -23,7 +23,7 @@ use Rattle.pool_state.specs.State as roles
 use Rattle.pool_state.specs.State.{stateIn, stateBytes, sent, oneMore, oneTaken}
 use Rattle.pool_master.specs.Master.{waiting, counts}
 use Rattle.pool_rooms.specs.Rooms.{filled, cleared}
-use Rattle.pool_checks.specs.Checks as checks
+use Rattle.pool_lent.specs.Lent.{notLentWith}
 use Rattle.pool_standby.specs.Calls as calls
 use Rattle.pool_fits.specs.Fits as fitted
 use Rattle.pool_fits.specs.Fits.{isMessage}
@@ -152,7 +152,7 @@ module _ (c : Cabinet) (n : ℕ) (v : Standby n c) where
   Hears x t = _≡_ {A = Said × mirror.Standby} (afterApply x .0, standbyOf n (afterApply x .1)) t × Heard x
 
   apply-checks : (bytes : List ℕ) (t : Bool) → fitted.notApplied m (readOf bytes) (drop 12 bytes) ≡ t
-      → _≡_ {A = Checks} ((6, checks.notLentWith 8 (c .state) (length (c .rooms)) (length {A = ℕ} (replicate 8 0))) ∷ (16, fitted.notApplied m (readOf bytes) (drop 12 bytes)) ∷ []) ((6, false) ∷ (16, t) ∷ [])
+      → _≡_ {A = Checks} ((6, notLentWith 8 (c .state) (length (c .rooms)) (length {A = ℕ} (replicate 8 0))) ∷ (16, fitted.notApplied m (readOf bytes) (drop 12 bytes)) ∷ []) ((6, false) ∷ (16, t) ∷ [])
   apply-checks bytes t e = rw (lent-with (v .kept) (omega arith) 8, e) refl
 
   -- a refusal leaves all as it was

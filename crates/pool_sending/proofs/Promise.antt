@@ -12,10 +12,11 @@ use Rattle.pool_message.specs.Message.{numberBytes, frontBytes, addition}
 use Rattle.pool_state.specs.declared.State.{State}
 use Rattle.pool_state.specs.State.{stateIn, sent}
 use Rattle.pool_rooms.specs.Rooms.{roomsSize, roomAt, padded, stripIn}
-use Rattle.pool_checks.specs.Checks.{notLentWith, outstandingChecks}
+use Rattle.pool_lent.specs.Lent.{notLentWith}
+use Rattle.pool_checks.specs.Checks.{outstandingChecks}
 use Rattle.pool_sending.specs.Outstanding.{messageOf}
 use Rattle.pool_sending.proofs.Written.{taking-is, none-is}
-use Rattle.pool_checks.proofs.Admitted.{Lent, lent-with}
+use Rattle.pool_lent.proofs.Lent.{Lent, lent-with}
 
 module _ (st rooms out : List ℕ) (p : passes (outstandingChecks st (length rooms) (length out)) ≡ true) (m : State) (h : m ≡ stateIn st) where
   lent-out : Lent st (length rooms) × (length out ≡ 688)

@@ -15,10 +15,11 @@ use Rattle.pool_message.specs.declared.Message.{Message}
 use Rattle.pool_state.specs.declared.State.{State}
 use Rattle.pool_state.specs.State.{stateIn, stateBytes, sent, noState, impossible, withRole}
 use Rattle.pool_rooms.specs.Rooms.{roomsSize}
-use Rattle.pool_checks.specs.Checks.{notLentWith, applyChecks, goAloneChecks}
+use Rattle.pool_lent.specs.Lent.{notLentWith}
+use Rattle.pool_checks.specs.Checks.{applyChecks, goAloneChecks}
 use Rattle.pool_fits.specs.Fits.{fits, isMessage, notApplied}
 use Rattle.pool_standby.specs.Calls.{applied, answered}
-use Rattle.pool_checks.proofs.Admitted.{lent-with}
+use Rattle.pool_lent.proofs.Lent.{lent-with}
 
 pub acknowledgement-length : (n : ℕ) → length (acknowledgement n) ≡ 8
 unfolding acknowledgement frontBytes numberBytes

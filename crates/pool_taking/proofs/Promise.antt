@@ -15,9 +15,10 @@ use Rattle.pool_state.specs.declared.State.{State}
 use Rattle.pool_state.specs.State.{stateIn, stateBytes, oneTaken, withRole}
 use Rattle.pool_master.specs.Master.{waiting, usedUp, noneHeld, isStandby, sending, counts}
 use Rattle.pool_rooms.specs.Rooms.{roomsSize, roomAt, cleared}
-use Rattle.pool_checks.specs.Checks.{notLentOut, takeChecks, isAcknowledgement, acknowledgeChecks}
+use Rattle.pool_lent.specs.Lent.{notLentOut}
+use Rattle.pool_checks.specs.Checks.{takeChecks, isAcknowledgement, acknowledgeChecks}
 use Rattle.pool_taking.specs.Taking.{handing, handingNone, taken, settle, acknowledged}
-use Rattle.pool_checks.proofs.Admitted.{LentOut, lent-out-is}
+use Rattle.pool_lent.proofs.Lent.{LentOut, lent-out-is}
 
 -- ---- handing out
 pub handed-out : (rooms : List ℕ) (n : ℕ) (rooms′ number strip′ : List ℕ) → rooms′ ≡ cleared rooms n → number ≡ numberBytes (n + 1) → strip′ ≡ roomAt rooms n → (rooms′, (number, strip′)) ≡ handing rooms n

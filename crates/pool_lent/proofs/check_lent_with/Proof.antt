@@ -1,9 +1,9 @@
--- `pool_checks::check_lent_with` meets its contract: from the check of state and rooms, and the length of the part. Assumes nothing.
-use Rattle.pool_checks.specs.Checks.{notLentWith}
+-- `pool_lent::check_lent_with` meets its contract: from the check of state and rooms, and the length of the part. Assumes nothing.
+use Rattle.pool_lent.specs.Lent.{notLentWith}
 use Rattle.refusal.proofs.First.{either-first, either-second}
 use borrow.Author.Needs.{needs}
-use Rattle.pool_checks.proofs.check_lent_with.Statement.{statement}
-use Rattle.pool_checks.proofs.check_lent_with.Tie as tie
+use Rattle.pool_lent.proofs.check_lent_with.Statement.{statement}
+use Rattle.pool_lent.proofs.check_lent_with.Tie as tie
 
 check-lent-requires : tie.Need-check-lent-requires
 check-lent-requires c κs = search needs

@@ -1,9 +1,9 @@
--- `pool_checks::check_lent` meets its contract: from the state's check and the length of the rooms. Assumes nothing.
+-- `pool_lent::check_lent` meets its contract: from the state's check and the length of the rooms. Assumes nothing.
 use borrow.Author.Needs.{needs}
 use Rattle.refusal.proofs.First.{either-first, either-second}
-use Rattle.pool_checks.specs.Checks.{notLent}
-use Rattle.pool_checks.proofs.check_lent.Statement.{statement}
-use Rattle.pool_checks.proofs.check_lent.Tie as tie
+use Rattle.pool_lent.specs.Lent.{notLent}
+use Rattle.pool_lent.proofs.check_lent.Statement.{statement}
+use Rattle.pool_lent.proofs.check_lent.Tie as tie
 
 check-requires : tie.Need-check-requires
 check-requires c κs = search needs

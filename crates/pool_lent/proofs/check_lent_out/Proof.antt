@@ -1,9 +1,9 @@
--- `pool_checks::check_lent_out` meets its contract: from the check of the number's part, and the length of the strip's. Assumes nothing.
-use Rattle.pool_checks.specs.Checks.{notLentOut}
+-- `pool_lent::check_lent_out` meets its contract: from the check of the number's part, and the length of the strip's. Assumes nothing.
+use Rattle.pool_lent.specs.Lent.{notLentOut}
 use Rattle.refusal.proofs.First.{either-first, either-second}
 use borrow.Author.Needs.{needs}
-use Rattle.pool_checks.proofs.check_lent_out.Statement.{statement}
-use Rattle.pool_checks.proofs.check_lent_out.Tie as tie
+use Rattle.pool_lent.proofs.check_lent_out.Statement.{statement}
+use Rattle.pool_lent.proofs.check_lent_out.Tie as tie
 
 check-lent-with-requires : tie.Need-check-lent-with-requires
 check-lent-with-requires c κs = search needs
