@@ -1,11 +1,10 @@
--- What `readOf` gives, by what the code has found so far; bytes that are written over a part. Assumes nothing.
+-- What `readOf` gives, by what the code has found so far. Assumes nothing.
 use Prim.Native.Nat.{ℕ, _<_, _≤_}
 use native.Mathlib.Omega.{arith}
 use mathlib.Core.Path.{_≡_, refl, sym, ap, _∙_}
-use mathlib.Core.List.{List, _++_, append-nil}
+use mathlib.Core.List.{List}
 use mathlib.Core.Bool.{Bool, true, false, cond, _&&_, _||_}
-use lib.ListN.{length, getD, take, drop}
-use lib.Seq.{take-length, drop-length}
+use lib.ListN.{length, getD}
 use lib.Dec.{leb, eqb}
 use borrow.Author.Tests.{leb-true, le-leb, lt-leb, eq-eqb, ne-eqb}
 use Rattle.refusal.specs.Refusal.{failed}
@@ -15,7 +14,8 @@ use Rattle.refusal.specs.declared.Check.the-variants.{Passed, Failed}
 use Rattle.refusal.proofs.First.{clash, either-first, neither}
 use Rattle.strip.specs.Strip.{badFraming}
 use Rattle.strip.proofs.Good.{unspoilt}
-use Rattle.pool_message.specs.Message.{numberBytes, misframed, isOf, numberAt, readOf}
+use Rattle.pool_numbers.specs.Numbers.{numberAt}
+use Rattle.pool_message.specs.Message.{misframed, isOf, readOf}
 use Rattle.pool_message.specs.declared.Message.the-variants.{Adds, Takes, Acknowledges, Unreadable}
 
 -- a framing that passed has its four first bytes
@@ -82,16 +82,3 @@ adds-long m k n e = leb-true 12 (length m) (go (misframed m) (eqb (getD m 3 0) 1
   go false false c true f e = clash cc
   go false false c false true e = clash cc
   go false false c false false e = clash cc
-
--- ---- bytes as they are written
--- a part overwritten by as many bytes
-overwritten : (b part new : List ℕ) → length b ≡ length part → new ≡ take (length b) b ++ drop (length b) part → new ≡ b
-overwritten b part new e h = h ∙ rw (e, drop-length part, ← e, take-length b, append-nil b) refl
-
--- an array by its elements, and copied over a part that begins with as many bytes
-pub copied : (b all part new : List ℕ) (n : ℕ) → b ≡ all → length all ≡ n → n ≡ length part → new ≡ take (length b) b ++ drop (length b) part → new ≡ all
-copied b all part new n e f g h = overwritten all part new (f ∙ g) (h ∙ rw e refl)
-
-pub number-length : (n : ℕ) → length (numberBytes n) ≡ 4
-unfolding numberBytes
-number-length n = refl

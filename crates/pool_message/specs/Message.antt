@@ -1,20 +1,14 @@
 -- Messages between the masters as bytes: how each is written, and what is read from any bytes.
-use Prim.Native.Nat.{ℕ, _+_, _*_, _/_, _%_}
-use mathlib.Core.List.{List, [], _∷_, _++_}
+use Prim.Native.Nat.{ℕ, _+_, _/_, _%_}
+use mathlib.Core.List.{List, _∷_, _++_}
 use mathlib.Core.Bool.{Bool, cond, _&&_, _||_}
 use lib.ListN.{length, getD}
 use lib.Dec.{eqb, leb}
 use Rattle.refusal.specs.Answer.{isNot}
 use Rattle.strip.specs.Strip.{badFraming}
+use Rattle.pool_numbers.specs.Numbers.{numberBytes, numberAt}
 use Rattle.pool_message.specs.declared.Message.{Message}
 use Rattle.pool_message.specs.declared.Message.the-variants.{Adds, Takes, Acknowledges, Unreadable}
-
--- strip and sequence numbers: four bytes, big-endian
-unfoldable pub numberBytes : ℕ → List ℕ
-numberBytes n = n / 16777216 % 256 ∷ n / 65536 % 256 ∷ n / 256 % 256 ∷ n % 256 ∷ []
-
-unfoldable pub numberAt : List ℕ → ℕ → ℕ
-numberAt l i = ((getD l i 0 * 256 + getD l (i + 1) 0) * 256 + getD l (i + 2) 0) * 256 + getD l (i + 3) 0
 
 -- two bytes of length, big-endian, counting all that follows; version 1; kind 1, 2 or 3; the sequence number
 unfoldable pub frontBytes : ℕ → ℕ → ℕ → List ℕ

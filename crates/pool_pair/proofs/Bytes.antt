@@ -14,7 +14,8 @@ use Rattle.refusal.specs.declared.Check.the-variants.{Passed}
 use Rattle.refusal.proofs.First.{passed-is, neither, passes-first}
 use Rattle.strip.specs.Strip.{lengthField, badFraming, ownChecks}
 use Rattle.strip.proofs.Good.{unspoilt, own-short}
-use Rattle.pool_message.specs.Message.{numberBytes, numberAt, frontBytes, addition, taking, acknowledgement, misframed, isOf, readOf}
+use Rattle.pool_numbers.specs.Numbers.{numberBytes, numberAt}
+use Rattle.pool_message.specs.Message.{frontBytes, addition, taking, acknowledgement, misframed, isOf, readOf}
 use Rattle.pool_message.proofs.Laws.{adds}
 use Rattle.pool_message.specs.declared.Message.the-variants.{Adds, Takes, Acknowledges}
 use Rattle.pool_state.specs.declared.State.{State}

@@ -11,7 +11,8 @@ use borrow.Author.Tests.{eqb-true, eqb-false, leb-false, le-ltb, le-leb, lt-leb,
 use Rattle.refusal.specs.declared.Refusal.{Refusal}
 use Rattle.refusal.specs.Answer.{first, isNot, above, passes}
 use Rattle.refusal.proofs.First.{clash, neither}
-use Rattle.pool_message.specs.Message.{numberBytes, numberAt, readOf}
+use Rattle.pool_numbers.specs.Numbers.{numberBytes, numberAt}
+use Rattle.pool_message.specs.Message.{readOf}
 use Rattle.pool_message.specs.declared.Message.{Message}
 use Rattle.pool_message.specs.declared.Message.the-variants.{Adds, Takes, Acknowledges, Unreadable}
 use Rattle.pool_mirror.specs.Mirror as mirror

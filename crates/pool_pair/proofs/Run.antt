@@ -11,7 +11,8 @@ use borrow.Author.Tests.{eqb-true, eqb-false}
 use Rattle.refusal.specs.Answer as answer
 use Rattle.refusal.specs.Answer.{Answer}
 use Rattle.strip.specs.Strip.{ownChecks}
-use Rattle.pool_message.specs.Message.{numberAt, acknowledgement, readOf}
+use Rattle.pool_numbers.specs.Numbers.{numberAt}
+use Rattle.pool_message.specs.Message.{acknowledgement, readOf}
 use Rattle.pool_message.specs.declared.Message.the-variants.{Acknowledges}
 use Rattle.pool_mirror.specs.Mirror as mirror
 use Rattle.pool_mirror.specs.Mirror.{most, Strips, Said, Event, adds-strip, takes-strip, sends, arrives, answered, cuts, adds-alone, takes-alone, at, paper, step, after}

@@ -7,7 +7,8 @@ use lib.Dec.{eqb}
 use Rattle.refusal.specs.Answer as answer
 use Rattle.refusal.specs.Answer.{Answer}
 use Rattle.strip.specs.Strip.{lengthField}
-use Rattle.pool_message.specs.Message.{numberAt, readOf}
+use Rattle.pool_numbers.specs.Numbers.{numberAt}
+use Rattle.pool_message.specs.Message.{readOf}
 use Rattle.pool_message.specs.declared.Message.{Message}
 use Rattle.pool_message.specs.declared.Message.the-variants.{Adds, Takes, Acknowledges, Unreadable}
 use Rattle.pool_mirror.specs.Mirror as mirror

@@ -8,7 +8,8 @@ use lib.ListN.{length, drop, replicate, length-replicate}
 use borrow.Author.Tests.{eq-eqb, ne-eqb}
 use Rattle.refusal.specs.Answer.{passes}
 use Rattle.refusal.proofs.First.{passes-first}
-use Rattle.pool_message.specs.Message.{numberBytes, frontBytes, addition}
+use Rattle.pool_numbers.specs.Numbers.{numberBytes}
+use Rattle.pool_message.specs.Message.{frontBytes, addition}
 use Rattle.pool_state.specs.declared.State.{State}
 use Rattle.pool_state.specs.State.{stateIn, sent}
 use Rattle.pool_rooms.specs.Rooms.{roomsSize, roomAt, padded, stripIn}

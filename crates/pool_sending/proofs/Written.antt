@@ -7,7 +7,8 @@ use lib.ListN.{length, take, drop, replicate, length-append, length-drop, length
 use lib.Seq.{length-take-le, take-all, drop-at, drop-drop, take-take}
 use borrow.Rule.Slice.PartMut.{putMid}
 use Rattle.strip.specs.Strip.{lengthField}
-use Rattle.pool_message.specs.Message.{numberBytes, frontBytes, addition, taking}
+use Rattle.pool_numbers.specs.Numbers.{numberBytes}
+use Rattle.pool_message.specs.Message.{frontBytes, addition, taking}
 use Rattle.pool_rooms.specs.Rooms.{roomAt, padded, stripIn}
 use Rattle.pool_rooms.proofs.Places.{padded-is, room-read}
 

@@ -5,7 +5,8 @@ ghost use mathlib.Core.List.{_++_};
 ghost use Prim.Native.Nat.{_-_, _<_, _≤_};
 ghost use lib.ListN.{length, drop, replicate};
 ghost use Rattle.refusal.specs.Answer.{outcome, passes};
-ghost use Rattle.pool_message.specs.Message.{numberBytes, frontBytes, addition};
+ghost use Rattle.pool_numbers.specs.Numbers.{numberBytes};
+ghost use Rattle.pool_message.specs.Message.{frontBytes, addition};
 ghost use Rattle.pool_rooms.specs.Rooms.{roomsSize, roomAt, padded, stripIn};
 ghost use Rattle.pool_state.specs.State.{stateIn, sent};
 ghost use Rattle.pool_checks.specs.Checks.{outstandingChecks};
@@ -19,7 +20,7 @@ fn write_front(follows: u16, kind: u8, sequence: u32, number: u32, message: &mut
     ensures { λ _. ⌜ now (message .exit) ≡ (frontBytes follows kind sequence ++ numberBytes number) ++ drop 12 (now (message .entry)) ⌝ }
 {
     let front = pool_message::front_bytes(follows, kind, sequence);
-    let last = pool_message::number_bytes(number);
+    let last = pool_numbers::number_bytes(number);
     bytes::copy(&front, message);
     bytes::copy(&last, &mut message[8..688]);
 }

@@ -10,7 +10,8 @@ use borrow.Author.Tests.{ltb-false, le-leb, lt-leb, eq-eqb, not-false}
 use Rattle.refusal.specs.Answer.{isNot, passes}
 use Rattle.refusal.specs.declared.Check.the-variants.{Passed}
 use Rattle.refusal.proofs.First.{neither, passed-is, passes-first}
-use Rattle.pool_message.specs.Message.{numberBytes, frontBytes, acknowledgement, readOf, sequence}
+use Rattle.pool_numbers.specs.Numbers.{numberBytes}
+use Rattle.pool_message.specs.Message.{frontBytes, acknowledgement, readOf, sequence}
 use Rattle.pool_message.specs.declared.Message.{Message}
 use Rattle.pool_state.specs.declared.State.{State}
 use Rattle.pool_state.specs.State.{stateIn, stateBytes, sent, noState, impossible, withRole}

@@ -11,7 +11,7 @@ use Rattle.refusal.specs.Answer.{isNot}
 use Rattle.refusal.specs.declared.Check.{Check}
 use Rattle.refusal.specs.declared.Check.the-variants.{Passed, Failed}
 use Rattle.refusal.proofs.First.{either-first, either-second}
-use Rattle.pool_message.specs.Message.{numberBytes}
+use Rattle.pool_numbers.specs.Numbers.{numberBytes}
 use Rattle.pool_state.specs.declared.State.{State}
 use Rattle.pool_state.specs.State.{stateIn, stateBytes, gone, neverSent, sentTooMuch, impossible, noState}
 

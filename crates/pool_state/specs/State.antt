@@ -5,7 +5,7 @@ use mathlib.Core.Bool.{Bool, cond, _&&_, _||_}
 use lib.ListN.{length, getD}
 use lib.Dec.{eqb, ltb}
 use Rattle.refusal.specs.Answer.{above, isNot}
-use Rattle.pool_message.specs.Message.{numberBytes, numberAt}
+use Rattle.pool_numbers.specs.Numbers.{numberBytes, numberAt}
 use Rattle.pool_mirror.specs.Mirror.{most}
 use Rattle.pool_state.specs.declared.State.{State}
 

@@ -25,17 +25,17 @@ pub fn read(state: &[u8]) -> State
     ensures { λ m. ⌜ m ≡ stateIn (now (state .entry)) ⌝ }
 {
     State {
-        role: pool_message::byte_at(state, 0),
-        added: pool_message::number_at(state, 1),
-        taken: pool_message::number_at(state, 5),
+        role: pool_numbers::byte_at(state, 0),
+        added: pool_numbers::number_at(state, 1),
+        taken: pool_numbers::number_at(state, 5),
     }
 }
 
 fn state_bytes(master: State) -> [u8; 9]
     ensures { λ b. ⌜ b ≡ stateBytes master ⌝ }
 {
-    let added = pool_message::number_bytes(master.added);
-    let taken = pool_message::number_bytes(master.taken);
+    let added = pool_numbers::number_bytes(master.added);
+    let taken = pool_numbers::number_bytes(master.taken);
     [
         master.role,
         added[0],

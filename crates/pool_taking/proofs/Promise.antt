@@ -9,7 +9,8 @@ use lib.Dec.{eqb}
 use borrow.Author.Tests.{leb-false}
 use Rattle.refusal.specs.Answer.{passes}
 use Rattle.refusal.proofs.First.{neither, passes-first}
-use Rattle.pool_message.specs.Message.{numberBytes, readOf, sequence}
+use Rattle.pool_numbers.specs.Numbers.{numberBytes}
+use Rattle.pool_message.specs.Message.{readOf, sequence}
 use Rattle.pool_message.specs.declared.Message.{Message}
 use Rattle.pool_state.specs.declared.State.{State}
 use Rattle.pool_state.specs.State.{stateIn, stateBytes, oneTaken, withRole}

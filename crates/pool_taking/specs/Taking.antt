@@ -5,6 +5,7 @@ use mathlib.Core.Bool.{cond}
 use lib.ListN.{length}
 use lib.Dec.{eqb}
 use Rattle.refusal.specs.Answer.{Answer, done, refused, first}
+use Rattle.pool_numbers.specs.Numbers.{numberBytes}
 use Rattle.pool_message.specs.Message as message
 use Rattle.pool_message.specs.Message.{sequence}
 use Rattle.pool_state.specs.declared.State.{State}
@@ -15,10 +16,10 @@ use Rattle.pool_checks.specs.Checks.{takeChecks, acknowledgeChecks}
 
 -- ---- handing out: the rooms, a strip's number and the strip, when it is handed out and its room zeroed, and when none is: then the number is 0
 unfoldable pub handing : List ℕ → ℕ → List ℕ × (List ℕ × List ℕ)
-handing rooms n = (cleared rooms n, (message.numberBytes (n + 1), roomAt rooms n))
+handing rooms n = (cleared rooms n, (numberBytes (n + 1), roomAt rooms n))
 
 unfoldable pub handingNone : List ℕ → List ℕ → List ℕ × (List ℕ × List ℕ)
-handingNone rooms strip = (rooms, (message.numberBytes 0, strip))
+handingNone rooms strip = (rooms, (numberBytes 0, strip))
 
 -- ---- taking: the lowest number is the next after those ever taken. Alone it is handed out at once.
 abbrev pub taken : State → List ℕ → List ℕ → List ℕ × (List ℕ × (List ℕ × List ℕ))

@@ -3,7 +3,7 @@ ghost use mathlib.Core.Path.{_≡_};
 ghost use mathlib.Core.Bool.{cond};
 ghost use Prim.Native.Nat.{_-_, _<_};
 ghost use lib.ListN.{length};
-ghost use Rattle.pool_message.specs.Message.{numberBytes};
+ghost use Rattle.pool_numbers.specs.Numbers.{numberBytes};
 ghost use Rattle.pool_rooms.specs.Rooms.{roomsSize};
 ghost use Rattle.pool_taking.specs.Taking.{handing, handingNone};
 
@@ -11,7 +11,7 @@ pub fn write_number(n: u32, part: &mut [u8])
     requires { ⌜ length (now part) ≡ 4 ⌝ }
     ensures { λ _. ⌜ now (part .exit) ≡ numberBytes n ⌝ }
 {
-    let number = pool_message::number_bytes(n);
+    let number = pool_numbers::number_bytes(n);
     bytes::copy(&number, part);
 }
 

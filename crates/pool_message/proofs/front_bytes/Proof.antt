@@ -1,7 +1,8 @@
 -- `pool_message::front_bytes` meets its contract: from the bytes of the sequence number. Assumes nothing.
 use mathlib.Core.Path.{refl}
 use borrow.Author.Needs.{needs}
-use Rattle.pool_message.specs.Message.{numberBytes, frontBytes}
+use Rattle.pool_numbers.specs.Numbers.{numberBytes}
+use Rattle.pool_message.specs.Message.{frontBytes}
 use Rattle.pool_message.proofs.front_bytes.Statement.{statement}
 use Rattle.pool_message.proofs.front_bytes.Tie as tie
 

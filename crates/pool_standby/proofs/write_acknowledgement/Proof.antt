@@ -1,6 +1,6 @@
 -- `pool_standby::write_acknowledgement` meets its contract: from the eight bytes, copied over all of the part. Assumes nothing.
 use Rattle.pool_standby.proofs.Promise.{acknowledgement-length}
-use Rattle.pool_message.proofs.Laws.{copied}
+use Rattle.pool_numbers.proofs.Laws.{copied}
 use native.Mathlib.Omega.{arith}
 use borrow.Author.Needs.{needs}
 use Rattle.pool_standby.proofs.write_acknowledgement.Statement.{statement}

@@ -1,7 +1,7 @@
 -- `pool_state::state_bytes` meets its contract: from the bytes of both numbers. Assumes nothing.
 use mathlib.Core.Path.{refl}
 use borrow.Author.Needs.{needs}
-use Rattle.pool_message.specs.Message.{numberBytes}
+use Rattle.pool_numbers.specs.Numbers.{numberBytes}
 use Rattle.pool_state.specs.State.{stateBytes}
 use Rattle.pool_state.proofs.state_bytes.Statement.{statement}
 use Rattle.pool_state.proofs.state_bytes.Tie as tie

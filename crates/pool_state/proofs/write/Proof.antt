@@ -1,7 +1,7 @@
 -- `pool_state::write` meets its contract: by the length, from the nine bytes, copied over all of the part. Assumes nothing.
 use mathlib.Core.Path.{refl}
 use native.Mathlib.Omega.{arith}
-use Rattle.pool_message.proofs.Laws.{copied}
+use Rattle.pool_numbers.proofs.Laws.{copied}
 use Rattle.refusal.proofs.Part.{on-length, off-length}
 use Rattle.pool_state.proofs.Laws.{state-length}
 use borrow.Author.Needs.{needs}

@@ -1,7 +1,7 @@
 -- `pool_taking::parts::write_number` meets its contract: from the four bytes, copied over all of the part. Assumes nothing.
 use native.Mathlib.Omega.{arith}
 use borrow.Author.Needs.{needs}
-use Rattle.pool_message.proofs.Laws.{copied, number-length}
+use Rattle.pool_numbers.proofs.Laws.{copied, number-length}
 use Rattle.pool_taking.proofs.parts.write_number.Statement.{statement}
 use Rattle.pool_taking.proofs.parts.write_number.Tie as tie
 

@@ -1,9 +1,9 @@
--- `pool_message::number_bytes` meets its contract: by computing. Assumes nothing.
+-- `pool_numbers::number_bytes` meets its contract: by computing. Assumes nothing.
 use mathlib.Core.Path.{refl}
 use borrow.Author.Needs.{needs}
-use Rattle.pool_message.specs.Message.{numberBytes}
-use Rattle.pool_message.proofs.number_bytes.Statement.{statement}
-use Rattle.pool_message.proofs.number_bytes.Tie as tie
+use Rattle.pool_numbers.specs.Numbers.{numberBytes}
+use Rattle.pool_numbers.proofs.number_bytes.Statement.{statement}
+use Rattle.pool_numbers.proofs.number_bytes.Tie as tie
 
 cast-t4 : tie.Need-cast-t4
 cast-t4 c = search needs

@@ -1,9 +1,9 @@
--- `pool_message::number` meets its contract: from the four bytes widened. Assumes nothing.
+-- `pool_numbers::number` meets its contract: from the four bytes widened. Assumes nothing.
 use native.Mathlib.Omega.{arith}
 use borrow.Author.Needs.{needs}
-use Rattle.pool_message.specs.Message.{numberAt}
-use Rattle.pool_message.proofs.number.Statement.{statement}
-use Rattle.pool_message.proofs.number.Tie as tie
+use Rattle.pool_numbers.specs.Numbers.{numberAt}
+use Rattle.pool_numbers.proofs.number.Statement.{statement}
+use Rattle.pool_numbers.proofs.number.Tie as tie
 
 wide-requires : tie.Need-wide-requires
 wide-requires c κs = search needs

@@ -1,10 +1,10 @@
--- `pool_message::byte_at` meets its contract: from the bytes that are there, and zero beyond them. Assumes nothing.
+-- `pool_numbers::byte_at` meets its contract: from the bytes that are there, and zero beyond them. Assumes nothing.
 use lib.ListN.{List·getD-eq-default}
 use mathlib.Core.Path.{sym}
 use native.Mathlib.Omega.{arith}
 use borrow.Author.Needs.{needs}
-use Rattle.pool_message.proofs.byte_at.Statement.{statement}
-use Rattle.pool_message.proofs.byte_at.Tie as tie
+use Rattle.pool_numbers.proofs.byte_at.Statement.{statement}
+use Rattle.pool_numbers.proofs.byte_at.Tie as tie
 
 shared-slice-read-result : tie.Need-shared-slice-read-result
 shared-slice-read-result c = search needs

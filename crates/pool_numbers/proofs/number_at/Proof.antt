@@ -1,9 +1,9 @@
--- `pool_message::number_at` meets its contract: from the four bytes read. Assumes nothing.
-use Rattle.pool_message.specs.Message.{numberAt}
+-- `pool_numbers::number_at` meets its contract: from the four bytes read. Assumes nothing.
+use Rattle.pool_numbers.specs.Numbers.{numberAt}
 use mathlib.Core.Path.{refl, _∙_}
 use borrow.Author.Needs.{needs}
-use Rattle.pool_message.proofs.number_at.Statement.{statement}
-use Rattle.pool_message.proofs.number_at.Tie as tie
+use Rattle.pool_numbers.proofs.number_at.Statement.{statement}
+use Rattle.pool_numbers.proofs.number_at.Tie as tie
 
 byte-at-requires : tie.Need-byte-at-requires
 byte-at-requires c κs = search needs
