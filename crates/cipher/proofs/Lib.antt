@@ -1,4 +1,2 @@
-pub mod Steps
 pub mod Records
-pub mod Substitution
 pub mod Promise

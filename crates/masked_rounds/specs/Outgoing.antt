@@ -2,15 +2,10 @@
 use Prim.Native.Nat.{ℕ, _+_, _-_, _*_}
 use mathlib.Core.List.{List}
 use Rattle.fips197.specs.Cipher.{state, shiftRows}
-use Rattle.tower.specs.declared.Record.{Record}
-use Rattle.strip.specs.Strip.{recordPart}
 use Rattle.sbox.specs.declared.Direction.{Direction}
 use Rattle.sbox.specs.declared.Direction.the-variants.{Encrypt, Decrypt}
-use Rattle.sbox.specs.Sbox.{newMask, recordOf}
-
--- a record of a strip, where the reader hands it out
-unfoldable pub recordAt : List ℕ → ℕ → Record
-recordAt s index = recordOf (recordPart s index)
+use Rattle.sbox.specs.Sbox.{newMask}
+use Rattle.masked_steps.specs.Steps.{recordAt}
 
 -- what the S-boxes of a round worked, from 0, leave as masks: sixteen records a round, by position in the state
 unfoldable pub newMasks : Direction → List ℕ → ℕ → List ℕ

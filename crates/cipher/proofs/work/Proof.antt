@@ -1,24 +1,26 @@
 -- `cipher::work` meets its contract: from the rounds of each direction. Assumes nothing.
-use native.Mathlib.Omega.{arith}
+use Rattle.cipher.proofs.Promise.{worked-encrypt, worked-decrypt}
 use borrow.Author.Needs.{needs}
-use Rattle.cipher.proofs.Steps.{worked-encrypt, worked-decrypt}
 use Rattle.cipher.proofs.work.Statement.{statement}
 use Rattle.cipher.proofs.work.Tie as tie
 
 sub-rounds : tie.Need-sub-rounds
 sub-rounds c = search needs
 
+cast-rounds : tie.Need-cast-rounds
+cast-rounds c = search needs
+
 enum-told : tie.Need-enum-told
 enum-told c = search needs
 
 encrypt-rounds-requires : tie.Need-encrypt-rounds-requires
-encrypt-rounds-requires c κs = ((omega arith, omega arith), (omega arith, (c .before .before .before .before .before .before .before .before .pre .1 .1 .1, omega arith)))
+encrypt-rounds-requires c κs = search needs
 
 enum-told-2 : tie.Need-enum-told-2
 enum-told-2 c = search needs
 
 decrypt-rounds-requires : tie.Need-decrypt-rounds-requires
-decrypt-rounds-requires c κs = ((omega arith, omega arith), (omega arith, (c .before .before .before .before .before .before .before .before .pre .1 .1 .1, omega arith)))
+decrypt-rounds-requires c κs = search needs
 
 same-length : tie.Need-same-length
 same-length c = search needs
@@ -43,6 +45,7 @@ work-spec =
     tie.close
     (tie.spec
     sub-rounds
+    cast-rounds
     enum-told
     encrypt-rounds-requires
     enum-told-2
