@@ -1,11 +1,9 @@
 -- What the checks and the calls below make of the entries' promises. Assumes nothing.
-use Prim.Native.Nat.{ℕ, zero, suc, _≤_, _<_}
-use native.Mathlib.Omega.{arith}
+use Prim.Native.Nat.{ℕ}
 use mathlib.Core.Path.{_≡_, refl, sym, ap, ap₂, _∙_}
 use mathlib.Core.List.{List, [], _∷_, _++_}
-use mathlib.Core.Bool.{Bool, true, false, _||_}
+use mathlib.Core.Bool.{Bool}
 use lib.ListN.{length, getD, set}
-use borrow.Author.Tests.{ne-eqb}
 use Rattle.fips197.proofs.Lists.{eta}
 use Rattle.refusal.specs.declared.Refusal.{Refusal}
 use Rattle.refusal.specs.declared.Check.{Check}
@@ -14,36 +12,18 @@ use Rattle.refusal.specs.declared.Outcome.{Outcome}
 use Rattle.refusal.specs.declared.Outcome.the-variants as outcomes
 use Rattle.refusal.specs.Refusal.{number, refusal, failed}
 use Rattle.refusal.specs.Answer.{Answer, done, refused, answerNumber, numbered, first, above, isNot, outcome}
-use Rattle.refusal.proofs.First.{first-stop, first-on, all-passed, one-failed, front-failed, front-passed, first-part, passed-is, neither, passes-first, call-passes}
+use Rattle.refusal.proofs.First.{first-stop, first-on, all-passed, one-failed, front-failed, front-passed, first-part}
 use Rattle.tower.specs.declared.Record.{Record}
 use Rattle.points.specs.Points.{recordPoints}
 use Rattle.inversion.specs.declared.Masked.{Masked}
 use Rattle.inversion.specs.declared.Masked.the-variants.{Byte, Refused}
 use Rattle.inversion.specs.Answers.{byteAndMask}
 use Rattle.sbox.specs.declared.Direction.{Direction}
-use Rattle.sbox.specs.declared.Direction.the-variants.{Encrypt, Decrypt}
 use Rattle.sbox.specs.Sbox.{enterData, enterMask, newByte, newMask, recordOf, substituted, substitutedWithPoints}
+use Rattle.entry_checks.specs.Checks.{noDirection, way, sboxChecks}
+use Rattle.entry_checks.proofs.Laws.{lent-so}
 use Rattle.cipher.specs.Block.{blockOf}
-use Rattle.salcivorn.specs.Entries.{noDirection, way, wrongSboxLengths, sboxChecks, sboxOf, sboxPointsOf, directedBlockOf}
-
--- ---- the direction
-
-pub direction-good : (n : ℕ) → n < 2 → false ≡ noDirection n
-direction-good zero h = refl
-direction-good (suc zero) h = refl
-direction-good (suc (suc n)) h = absurd (omega arith)
-
-pub direction-bad : (n : ℕ) → 2 ≤ n → true ≡ noDirection n
-direction-bad n h = rw (ne-eqb n 0 (λ e. omega arith), ne-eqb n 1 (λ e. omega arith)) refl
-
-pub way-encrypt : (n : ℕ) → n ≡ 0 → Encrypt ≡ way n
-unfolding way
-way-encrypt n e = rw e refl
-
-pub way-decrypt : (n : ℕ) → (n ≡ 0 → ⊥) → Decrypt ≡ way n
-unfolding way
-way-decrypt zero h = absurd (h refl)
-way-decrypt (suc n) h = refl
+use Rattle.salcivorn.specs.Entries.{sboxOf, sboxPointsOf, directedBlockOf}
 
 -- ---- a check at the front of the list, its number instead of its refusal
 
@@ -97,25 +77,6 @@ module _ {L : Type 0} (front rest : List (ℕ × Bool)) (lent : L) (give : Answe
 
   front-on : (x : ℕ × L) → v ≡ outcomes.Done → x ≡ numbered (first rest (λ x. (refused x, lent)) give) → x ≡ whole
   front-on x f h = h ∙ ap numbered (front-passed rest (λ x. (refused x, lent)) give (outcome v) tt front (first rest (λ x. (refused x, lent)) give) tt e (ap outcome f) refl)
-
--- what the first checks have shown where they passed
-module _ (n d m r : ℕ) (v : Outcome) (e : outcome v ≡ first (sboxChecks n d m r) refused (done tt)) (f : v ≡ outcomes.Done) where
-  lent-so : (d ≡ 1) × ((m ≡ 1) × (r ≡ 3))
-  unfolding sboxChecks wrongSboxLengths
-  lent-so =
-      let p13 = passes-first 13 (noDirection n) ((6, wrongSboxLengths d m r) ∷ []) (call-passes (sboxChecks n d m r) v e f) in
-      let a = neither (isNot 1 d) (isNot 1 m || isNot 3 r) (passes-first 6 (wrongSboxLengths d m r) [] (p13 .1) .0) in
-      let b = neither (isNot 1 m) (isNot 3 r) (a .1) in
-      (passed-is 1 d Passed (sym (a .0)) refl, (passed-is 1 m Passed (sym (b .0)) refl, passed-is 3 r Passed (sym (b .1)) refl))
-
-  pub data-there : 0 < d
-  data-there = omega (arith, lent-so)
-
-  pub mask-there : 0 < m
-  mask-there = omega (arith, lent-so)
-
-  pub record-three : r ≡ 3
-  record-three = lent-so .1 .1
 
 -- a byte lent as one byte, rewritten
 one : (l : List ℕ) (a b : ℕ) → length l ≡ 1 → a ≡ b → set l 0 a ≡ b ∷ []

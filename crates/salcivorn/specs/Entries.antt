@@ -1,31 +1,13 @@
 -- What the entries for a host in C answer: the refusal's number, 0 for done, and every lent part.
-use Prim.Native.Nat.{ℕ, zero, suc}
+use Prim.Native.Nat.{ℕ}
 use mathlib.Core.List.{List, [], _∷_, _++_}
-use mathlib.Core.Bool.{Bool, _||_}
 use lib.ListN.{length, getD}
-use Rattle.refusal.specs.Answer.{done, refused, numbered, first, above, isNot, noneOf}
+use Rattle.refusal.specs.Answer.{done, refused, numbered, first, above, isNot}
 use Rattle.points.specs.Points.{recordPoints}
-use Rattle.sbox.specs.declared.Direction.{Direction}
-use Rattle.sbox.specs.declared.Direction.the-variants.{Encrypt, Decrypt}
 use Rattle.sbox.specs.Sbox.{enterData, enterMask, newByte, newMask, recordOf}
+use Rattle.entry_checks.specs.Checks.{noDirection, way, sboxChecks}
 use Rattle.expansion.specs.Expansion.{expansionOf}
 use Rattle.cipher.specs.Block.{blockOf}
-
--- 13: neither 0, to encrypt, nor 1, to decrypt
-abbrev pub noDirection : ℕ → Bool
-noDirection n = noneOf (0 ∷ 1 ∷ []) n
-
-unfoldable pub way : ℕ → Direction
-way zero = Encrypt
-way (suc n) = Decrypt
-
--- 6: data and mask not one byte each, or the record not three
-unfoldable pub wrongSboxLengths : ℕ → ℕ → ℕ → Bool
-wrongSboxLengths d m r = isNot 1 d || (isNot 1 m || isNot 3 r)
-
--- the refusals that both forms of the S-box begin with
-unfoldable pub sboxChecks : ℕ → ℕ → ℕ → ℕ → List (ℕ × Bool)
-sboxChecks n d m r = (13, noDirection n) ∷ (6, wrongSboxLengths d m r) ∷ []
 
 -- the S-box: its answers stand in the lent data byte and mask byte
 unfoldable pub sboxOf : ℕ → List ℕ → List ℕ → List ℕ → ℕ × (List ℕ × List ℕ)

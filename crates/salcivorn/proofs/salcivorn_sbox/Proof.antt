@@ -1,5 +1,6 @@
 -- `salcivorn::salcivorn_sbox` meets its contract: from the answers of the checks and of the S-box. Assumes nothing.
-use Rattle.salcivorn.proofs.Laws.{data-there, mask-there, record-three, sbox-stopped, sbox-refused, sbox-done}
+use Rattle.entry_checks.proofs.Laws.{data-there, mask-there, record-three}
+use Rattle.salcivorn.proofs.Laws.{sbox-stopped, sbox-refused, sbox-done}
 use borrow.Author.Needs.{needs}
 use Rattle.salcivorn.proofs.salcivorn_sbox.Statement.{statement}
 use Rattle.salcivorn.proofs.salcivorn_sbox.Tie as tie

@@ -1,5 +1,6 @@
 -- `salcivorn::salcivorn_sbox_points` meets its contract: from the answers of the checks and of the S-box with points. Assumes nothing.
-use Rattle.salcivorn.proofs.Laws.{data-there, mask-there, record-three, points-stopped, points-refused, points-done}
+use Rattle.entry_checks.proofs.Laws.{data-there, mask-there, record-three}
+use Rattle.salcivorn.proofs.Laws.{points-stopped, points-refused, points-done}
 use borrow.Author.Needs.{needs}
 use Rattle.salcivorn.proofs.salcivorn_sbox_points.Statement.{statement}
 use Rattle.salcivorn.proofs.salcivorn_sbox_points.Tie as tie

@@ -1,9 +1,9 @@
--- `salcivorn::check_sbox` meets its contract: from the answers of the two checks. Assumes nothing.
+-- `entry_checks::check_sbox` meets its contract: from the answers of the two checks. Assumes nothing.
 use Rattle.refusal.proofs.First.{first-stop, first-on, first-done}
-use Rattle.salcivorn.specs.Entries.{sboxChecks}
+use Rattle.entry_checks.specs.Checks.{sboxChecks}
 use borrow.Author.Needs.{needs}
-use Rattle.salcivorn.proofs.check_sbox.Statement.{statement}
-use Rattle.salcivorn.proofs.check_sbox.Tie as tie
+use Rattle.entry_checks.proofs.check_sbox.Statement.{statement}
+use Rattle.entry_checks.proofs.check_sbox.Tie as tie
 
 check-direction-requires : tie.Need-check-direction-requires
 check-direction-requires c κs = search needs

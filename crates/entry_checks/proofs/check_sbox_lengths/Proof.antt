@@ -1,9 +1,9 @@
--- `salcivorn::check_sbox_lengths` meets its contract: from the answers of the three checks. Assumes nothing.
+-- `entry_checks::check_sbox_lengths` meets its contract: from the answers of the three checks. Assumes nothing.
 use borrow.Author.Needs.{needs}
 use Rattle.refusal.proofs.First.{either-first, either-second}
-use Rattle.salcivorn.specs.Entries.{wrongSboxLengths}
-use Rattle.salcivorn.proofs.check_sbox_lengths.Statement.{statement}
-use Rattle.salcivorn.proofs.check_sbox_lengths.Tie as tie
+use Rattle.entry_checks.specs.Checks.{wrongSboxLengths}
+use Rattle.entry_checks.proofs.check_sbox_lengths.Statement.{statement}
+use Rattle.entry_checks.proofs.check_sbox_lengths.Tie as tie
 
 check-length-requires : tie.Need-check-length-requires
 check-length-requires c κs = search needs
