@@ -2,7 +2,7 @@
 ghost use mathlib.Core.Path.{_≡_};
 ghost use Prim.Native.Nat.{_+_, _-_, _*_, _≤_, _<_};
 ghost use lib.ListN.{length, take};
-ghost use Rattle.fips197.specs.Cipher.{_⊞_, word, rotWord, subWord, power, rcon, temp, expanded, keyExpansion};
+ghost use Rattle.fips197.specs.Cipher.{word, rcon, temp, expanded, keyExpansion};
 ghost use Rattle.refusal.specs.Answer.{outcome};
 ghost use Rattle.expansion.specs.Expansion.{expansionOf};
 ghost use Rattle.expansion.specs.Inner.{nextWord};
@@ -10,51 +10,12 @@ use refusal::Check;
 use refusal::Outcome;
 use refusal::Refusal;
 
-// The byte x to the power j, doubled that often from 01.
-fn power(j: usize) -> u8
-    ensures { λ r. ⌜ r ≡ power j ⌝ }
-{
-    let mut i: usize = 0;
-    let mut b: u8 = 0x01;
-    while i < j {
-        b = columns::double(b);
-        i += 1;
-    }
-    b
-}
-
 // Rcon, computed and not read from a table; j counts from 1.
 fn round_constant(j: usize) -> [u8; 4]
     requires { ⌜ 0 < j ⌝ }
     ensures { λ r. ⌜ r ≡ rcon j ⌝ }
 {
-    [power(j - 1), 0, 0, 0]
-}
-
-// 5.2 RotWord
-fn rot_word(a: [u8; 4]) -> [u8; 4]
-    ensures { λ r. ⌜ r ≡ rotWord a ⌝ }
-{
-    [a[1], a[2], a[3], a[0]]
-}
-
-// 5.2 SubWord
-fn sub_word(a: [u8; 4]) -> [u8; 4]
-    ensures { λ r. ⌜ r ≡ subWord a ⌝ }
-{
-    [
-        sbox::bare(a[0]),
-        sbox::bare(a[1]),
-        sbox::bare(a[2]),
-        sbox::bare(a[3]),
-    ]
-}
-
-// The sum of two words, byte by byte.
-fn sum(a: [u8; 4], b: [u8; 4]) -> [u8; 4]
-    ensures { λ r. ⌜ r ≡ a ⊞ b ⌝ }
-{
-    [a[0] ^ b[0], a[1] ^ b[1], a[2] ^ b[2], a[3] ^ b[3]]
+    [words::power(j - 1), 0, 0, 0]
 }
 
 // 5.2 temp: what is added to word i - nk, a being word i - 1.
@@ -63,10 +24,10 @@ fn temp(nk: usize, i: usize, a: [u8; 4]) -> [u8; 4]
     ensures { λ r. ⌜ r ≡ temp nk i a ⌝ }
 {
     if i % nk == 0 {
-        return sum(sub_word(rot_word(a)), round_constant(i / nk));
+        return words::sum(words::sub_word(words::rot_word(a)), round_constant(i / nk));
     }
     if nk > 6 && i % nk == 4 {
-        return sub_word(a);
+        return words::sub_word(a);
     }
     a
 }
@@ -87,7 +48,7 @@ fn next_word(nk: usize, i: usize, w: &[u8]) -> [u8; 4]
 {
     let first = word(w, i - nk);
     let last = word(w, i - 1);
-    sum(first, temp(nk, i, last))
+    words::sum(first, temp(nk, i, last))
 }
 
 // 5.2 the words behind the first nk, one after the other.

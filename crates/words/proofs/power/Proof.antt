@@ -1,12 +1,12 @@
--- `expansion::power` meets its contract: the loop's invariant: so far, x to the power of the turns made. Assumes nothing.
+-- `words::power` meets its contract: the loop's invariant: so far, x to the power of the turns made. Assumes nothing.
 use mathlib.Core.Path.{_≡_}
 use Prim.Native.Nat.{_≤_, _-_}
 use native.Mathlib.Omega.{arith}
 use borrow.Author.Needs.{needs}
 use Rattle.fips197.specs.Cipher.{power}
-use Rattle.expansion.proofs.Words.{power-none, power-more, power-all}
-use Rattle.expansion.proofs.power.Statement.{statement}
-use Rattle.expansion.proofs.power.Tie as tie
+use Rattle.words.proofs.Words.{power-none, power-more, power-all}
+use Rattle.words.proofs.power.Statement.{statement}
+use Rattle.words.proofs.power.Tie as tie
 
 abbrev Inv-loop : tie.InvT-loop
 Inv-loop j i₀ b₀ i b = (i ≤ j) × (b ≡ power i)

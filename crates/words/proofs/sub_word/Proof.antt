@@ -1,8 +1,8 @@
--- `expansion::sub_word` meets its contract: from the four bytes substituted. Assumes nothing.
+-- `words::sub_word` meets its contract: from the four bytes substituted. Assumes nothing.
 use borrow.Author.Needs.{needs}
-use Rattle.expansion.proofs.Words.{sub-made}
-use Rattle.expansion.proofs.sub_word.Statement.{statement}
-use Rattle.expansion.proofs.sub_word.Tie as tie
+use Rattle.words.proofs.Words.{sub-made}
+use Rattle.words.proofs.sub_word.Statement.{statement}
+use Rattle.words.proofs.sub_word.Tie as tie
 
 array-read-bare : tie.Need-array-read-bare
 array-read-bare c = search needs

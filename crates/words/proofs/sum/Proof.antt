@@ -1,8 +1,8 @@
--- `expansion::sum` meets its contract: from the four sums of bytes. Assumes nothing.
+-- `words::sum` meets its contract: from the four sums of bytes. Assumes nothing.
 use borrow.Author.Needs.{needs}
-use Rattle.expansion.proofs.Words.{sum-made}
-use Rattle.expansion.proofs.sum.Statement.{statement}
-use Rattle.expansion.proofs.sum.Tie as tie
+use Rattle.words.proofs.Words.{sum-made}
+use Rattle.words.proofs.sum.Statement.{statement}
+use Rattle.words.proofs.sum.Tie as tie
 
 array-read-t7 : tie.Need-array-read-t7
 array-read-t7 c = search needs

@@ -1,9 +1,9 @@
--- `expansion::rot_word` meets its contract: by its definition. Assumes nothing.
+-- `words::rot_word` meets its contract: by its definition. Assumes nothing.
 use mathlib.Core.Path.{refl}
 use borrow.Author.Needs.{needs}
 use Rattle.fips197.specs.Cipher.{rotWord}
-use Rattle.expansion.proofs.rot_word.Statement.{statement}
-use Rattle.expansion.proofs.rot_word.Tie as tie
+use Rattle.words.proofs.rot_word.Statement.{statement}
+use Rattle.words.proofs.rot_word.Tie as tie
 
 array-read-t5 : tie.Need-array-read-t5
 array-read-t5 c = search needs
