@@ -177,7 +177,7 @@ bool table_reached(void)
 
     for (size_t i = 0; i < count; i++) {
         const char *name = list[i].name;
-        bool bare = strcmp(name, "salcivorn_expand") == 0 || strcmp(name, "sbox::bare") == 0;
+        bool bare = strcmp(name, "salcivorn_expand") == 0 || strcmp(name, "bare_sbox::substitute") == 0;
 
         if ((strstr(name, "::") == NULL && strncmp(name, "salcivorn_", 10) != 0) || is_reached(&list[i]))
             continue;

@@ -1,12 +1,8 @@
--- The ways of data and mask to the inversion and back, for the code: the linear steps by one computed test each. Assumes nothing.
+-- What the inversion answered, passed on or brought back. Assumes nothing.
 use mathlib.Core.Path.{_≡_, refl, sym, ap, ap₂, _∙_}
 use mathlib.Core.List.{List, [], _∷_}
-use Prim.Native.Nat.{ℕ, _*_, _/_, _%_, _<_}
-use lib.Bits.{bitXor, bitOr}
+use Prim.Native.Nat.{ℕ}
 use lib.ListN.{length}
-use Rattle.fips197.specs.Field.{field}
-use Rattle.fips197.specs.Cipher.{fips, linear, invLinear}
-use Rattle.fips197.proofs.Below.{eq1}
 use Rattle.refusal.specs.declared.Refusal.{Refusal}
 use Rattle.refusal.specs.Answer.{Answer, done, refused, above, isNot}
 use Rattle.refusal.proofs.First.{refusal-passed, answer-passed}
@@ -17,20 +13,6 @@ use Rattle.inversion.specs.declared.Masked.the-variants.{Byte, Refused}
 use Rattle.inversion.specs.Answers.{byteAndMask, inverted, invertedWithPoints}
 use Rattle.sbox.specs.declared.Direction.{Direction}
 use Rattle.sbox.specs.Sbox.{enter, leave, enterData, enterMask, newByte, newMask, substituted, substitutedWithPoints}
-
--- a byte turned left by k places, p being 2 ^ k and q 2 ^ (8 - k)
-abbrev turned : ℕ → ℕ → ℕ → ℕ
-turned p q x = bitOr (x * p % 256) (x / q)
-
-pub linear-made : (x : ℕ) → x < 256 → bitXor (bitXor (bitXor (bitXor x (turned 2 128 x)) (turned 4 64 x)) (turned 8 32 x)) (turned 16 16 x) ≡ linear x
-unfolding fips field
-linear-made = eq1 256 (λ x. bitXor (bitXor (bitXor (bitXor x (turned 2 128 x)) (turned 4 64 x)) (turned 8 32 x)) (turned 16 16 x)) linear tt
-
-pub inverse-linear-made : (x : ℕ) → x < 256 → bitXor (bitXor (turned 2 128 x) (turned 8 32 x)) (turned 64 4 x) ≡ invLinear x
-unfolding fips field
-inverse-linear-made = eq1 256 (λ x. bitXor (bitXor (turned 2 128 x) (turned 8 32 x)) (turned 64 4 x)) invLinear tt
-
--- ---- what the inversion answered, passed on or brought back
 
 abbrev given : Answer (ℕ × ℕ) → ℕ × ℕ
 given (done p) = p

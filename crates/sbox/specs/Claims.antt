@@ -1,18 +1,13 @@
 -- What is claimed of the masked S-box. Each claim is proved in proofs/Claims.antt.
 use mathlib.Core.Path.{_≡_}
 use Prim.Native.Nat.{ℕ}
-use Rattle.fips197.specs.Field.{_⊕_, inverse}
+use Rattle.fips197.specs.Field.{_⊕_}
 use Rattle.fips197.specs.Cipher.{sbox, invSbox}
-use Rattle.tower.specs.Tower.{toTower, fromTower, byteInverse}
 use Rattle.tower.specs.Claims.{Good}
 use Rattle.tower.specs.declared.Record.{Record}
 use Rattle.sbox.specs.declared.Direction.{Direction}
 use Rattle.sbox.specs.declared.Direction.the-variants.{Encrypt, Decrypt}
 use Rattle.sbox.specs.Sbox.{newByte, newMask}
-
--- the tower's inverse, brought back, is the standard's; what stands above the eight bits of a byte is read by neither
-abbrev pub InverseIsField : Type 0
-InverseIsField = (a : ℕ) → fromTower (byteInverse (toTower a)) ≡ inverse a
 
 -- what FIPS 197 makes of a bare byte
 abbrev pub bareBox : Direction → ℕ → ℕ

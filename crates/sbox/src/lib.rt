@@ -1,6 +1,5 @@
-// The masked S-box and its inverse, with and without points; and the bare S-box, for key expansion.
+// The masked S-box and its inverse, with and without points.
 ghost use mathlib.Core.Path.{_≡_};
-ghost use Rattle.fips197.specs.Cipher.{linear, invLinear, sbox};
 ghost use Rattle.inversion.specs.Answers.{byteAndMask};
 ghost use Rattle.sbox.specs.Sbox.{enter, leave, substituted, substitutedWithPoints};
 use inversion::Masked;
@@ -13,40 +12,13 @@ pub enum Direction {
     Decrypt,
 }
 
-// The linear part of the affine step, on one part alone.
-fn linear(x: u8) -> u8
-    ensures { λ r. ⌜ r ≡ linear x ⌝ }
-{
-    x
-        ^ ((x << 1) | (x >> 7))
-        ^ ((x << 2) | (x >> 6))
-        ^ ((x << 3) | (x >> 5))
-        ^ ((x << 4) | (x >> 4))
-}
-
-// The linear part of the inverse affine step, on one part alone.
-fn inverse_linear(x: u8) -> u8
-    ensures { λ r. ⌜ r ≡ invLinear x ⌝ }
-{
-    ((x << 1) | (x >> 7)) ^ ((x << 3) | (x >> 5)) ^ ((x << 6) | (x >> 2))
-}
-
-// The S-box on a bare byte, for key expansion alone, whose bytes have no mask.
-pub fn bare(b: u8) -> u8
-    ensures { λ r. ⌜ r ≡ sbox b ⌝ }
-{
-    let entered = tower::to_tower(b);
-    let inverted = tower::byte_inverse(entered);
-    linear(tower::from_tower(inverted)) ^ 0x63
-}
-
 // One part on its way to the inversion, with the constant that is its own: 05 for the data, none for the mask.
 fn enter(direction: Direction, x: u8, constant: u8) -> u8
     ensures { λ r. ⌜ r ≡ enter direction constant x ⌝ }
 {
     match direction {
         Direction::Encrypt => tower::to_tower(x),
-        Direction::Decrypt => tower::to_tower(inverse_linear(x) ^ constant),
+        Direction::Decrypt => tower::to_tower(bare_sbox::inverse_linear(x) ^ constant),
     }
 }
 
@@ -55,7 +27,7 @@ fn leave(direction: Direction, x: u8, constant: u8) -> u8
     ensures { λ r. ⌜ r ≡ leave direction constant x ⌝ }
 {
     match direction {
-        Direction::Encrypt => linear(tower::from_tower(x)) ^ constant,
+        Direction::Encrypt => bare_sbox::linear(tower::from_tower(x)) ^ constant,
         Direction::Decrypt => tower::from_tower(x),
     }
 }

@@ -27,10 +27,10 @@ pub fn sub_word(a: [u8; 4]) -> [u8; 4]
     ensures { λ r. ⌜ r ≡ subWord a ⌝ }
 {
     [
-        sbox::bare(a[0]),
-        sbox::bare(a[1]),
-        sbox::bare(a[2]),
-        sbox::bare(a[3]),
+        bare_sbox::substitute(a[0]),
+        bare_sbox::substitute(a[1]),
+        bare_sbox::substitute(a[2]),
+        bare_sbox::substitute(a[3]),
     ]
 }
 

@@ -4,43 +4,43 @@ use Rattle.words.proofs.Words.{sub-made}
 use Rattle.words.proofs.sub_word.Statement.{statement}
 use Rattle.words.proofs.sub_word.Tie as tie
 
-array-read-bare : tie.Need-array-read-bare
-array-read-bare c = search needs
+array-read-substitute : tie.Need-array-read-substitute
+array-read-substitute c = search needs
 
-bare-requires : tie.Need-bare-requires
-bare-requires c κs = search needs
+substitute-requires : tie.Need-substitute-requires
+substitute-requires c κs = search needs
 
-array-read-bare-2 : tie.Need-array-read-bare-2
-array-read-bare-2 c = search needs
+array-read-substitute-2 : tie.Need-array-read-substitute-2
+array-read-substitute-2 c = search needs
 
-bare-requires-2 : tie.Need-bare-requires-2
-bare-requires-2 c κs = search needs
+substitute-requires-2 : tie.Need-substitute-requires-2
+substitute-requires-2 c κs = search needs
 
-array-read-bare-3 : tie.Need-array-read-bare-3
-array-read-bare-3 c = search needs
+array-read-substitute-3 : tie.Need-array-read-substitute-3
+array-read-substitute-3 c = search needs
 
-bare-requires-3 : tie.Need-bare-requires-3
-bare-requires-3 c κs = search needs
+substitute-requires-3 : tie.Need-substitute-requires-3
+substitute-requires-3 c κs = search needs
 
-array-read-bare-4 : tie.Need-array-read-bare-4
-array-read-bare-4 c = search needs
+array-read-substitute-4 : tie.Need-array-read-substitute-4
+array-read-substitute-4 c = search needs
 
-bare-requires-4 : tie.Need-bare-requires-4
-bare-requires-4 c κs = search needs
+substitute-requires-4 : tie.Need-substitute-requires-4
+substitute-requires-4 c κs = search needs
 
 returns : tie.Need-returns
-returns c = sub-made _ _ _ _ _ (c .before .before .before .bare .ensures) (c .before .before .bare2 .ensures) (c .before .bare3 .ensures) (c .bare4 .ensures)
+returns c = sub-made _ _ _ _ _ (c .before .before .before .substitute .ensures) (c .before .before .substitute2 .ensures) (c .before .substitute3 .ensures) (c .substitute4 .ensures)
 
 pub sub-word-spec : {M : Type 1} → statement M
 sub-word-spec =
     tie.close
     (tie.spec
-    array-read-bare
-    bare-requires
-    array-read-bare-2
-    bare-requires-2
-    array-read-bare-3
-    bare-requires-3
-    array-read-bare-4
-    bare-requires-4
+    array-read-substitute
+    substitute-requires
+    array-read-substitute-2
+    substitute-requires-2
+    array-read-substitute-3
+    substitute-requires-3
+    array-read-substitute-4
+    substitute-requires-4
     returns)

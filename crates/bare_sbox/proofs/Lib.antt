@@ -1,0 +1,2 @@
+pub mod Turned
+pub mod Claims
