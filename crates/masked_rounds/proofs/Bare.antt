@@ -19,7 +19,7 @@ use Rattle.sbox.specs.declared.Direction.the-variants.{Encrypt, Decrypt}
 use Rattle.sbox.specs.Sbox.{newByte, newMask}
 use Rattle.sbox.specs.Claims.{bareBox}
 use Rattle.sbox.proofs.Claims.{box-is-right}
-use Rattle.masked_steps.specs.Steps.{recordAt, Parts, boxed, substituted, maskedSubBytes, unless, restored}
+use Rattle.masked_steps.specs.Steps.{recordAt, Parts, boxed, allBoxed, maskedSubBytes, exceptLast, restored}
 use Rattle.masked_steps.proofs.Parts.{on-states}
 use Rattle.masked_rounds.specs.Outgoing.{newMasks, outgoing}
 use Rattle.masked_rounds.specs.Rounds.{each, maskedAddRoundKey, roundWorked, worked, maskedCipher, invRoundWorked, invWorked, maskedInvCipher}
@@ -93,12 +93,12 @@ key-under w i k b t u =
 
 -- every round but the last, and the last
 module _ (f : List ℕ → List ℕ) (n nr : ℕ) (b : Parts) where
-  not-last : (suc n ≡ nr → ⊥) → each (unless (eqb (suc n) nr) f) b ≡ each f b
-  unfolding unless
+  not-last : (suc n ≡ nr → ⊥) → each (exceptLast (eqb (suc n) nr) f) b ≡ each f b
+  unfolding exceptLast
   not-last h = rw (ne-eqb (suc n) nr h) refl
 
-  at-last : suc n ≡ nr → each (unless (eqb (suc n) nr) f) b ≡ b
-  unfolding unless
+  at-last : suc n ≡ nr → each (exceptLast (eqb (suc n) nr) f) b ≡ b
+  unfolding exceptLast
   at-last e = rw (eq-eqb (suc n) nr e) refl
 
 module _ (w s : List ℕ) (good : (i : ℕ) → Good (recordAt s i)) where
@@ -112,9 +112,9 @@ module _ (w s : List ℕ) (good : (i : ℕ) → Good (recordAt s i)) where
     newData = state (λ r c. newByte dir (cell (b .0) r c) (cell (b .1) r c) (recordAt s (16 * n + (r + 4 * c))))
 
     sub-is : length (b .0) ≡ 16 → length (b .1) ≡ 16 → maskedSubBytes dir s n b ≡ (newData, newMasks dir s n)
-    unfolding maskedSubBytes substituted newMasks
+    unfolding maskedSubBytes allBoxed newMasks
     sub-is h g =
-        sym (on-states (substituted dir s n) (b .0) (b .1) h g _ refl)
+        sym (on-states (allBoxed dir s n) (b .0) (b .1) h g _ refl)
         ∙ ap₂ (λ (x y : List ℕ). (x, y)) (state-ext _ _ (λ r c. ap (λ (p : ℕ × ℕ). p .0) (taken dir _ _ (16 * n + (r + 4 * c)))))
         (state-ext _ _ (λ r c. ap (λ (p : ℕ × ℕ). p .1) (taken dir _ _ (16 * n + (r + 4 * c)))))
 

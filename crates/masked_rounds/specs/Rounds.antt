@@ -5,7 +5,7 @@ use lib.Dec.{eqb}
 use Rattle.fips197.specs.Cipher.{shiftRows, mixColumns, invShiftRows}
 use Rattle.aes.specs.Steps.{onState, keyed}
 use Rattle.sbox.specs.declared.Direction.the-variants.{Encrypt, Decrypt}
-use Rattle.masked_steps.specs.Steps.{Parts, maskedSubBytes, unless, restored}
+use Rattle.masked_steps.specs.Steps.{Parts, maskedSubBytes, exceptLast, restored}
 
 abbrev pub each : (List ℕ → List ℕ) → Parts → Parts
 each f b = (f (b .0), f (b .1))
@@ -18,7 +18,7 @@ maskedAddRoundKey w round b = (keyed (b .0) w round, b .1)
 module _ (w s : List ℕ) (nr : ℕ) where
   unfoldable pub roundWorked : ℕ → Parts → Parts
   roundWorked n b =
-      maskedAddRoundKey w (suc n) (each (unless (eqb (suc n) nr) (onState mixColumns)) (each (onState shiftRows) (maskedSubBytes Encrypt s n b)))
+      maskedAddRoundKey w (suc n) (each (exceptLast (eqb (suc n) nr) (onState mixColumns)) (each (onState shiftRows) (maskedSubBytes Encrypt s n b)))
 
   unfoldable pub worked : ℕ → Parts → Parts
   worked zero b = b
@@ -29,7 +29,7 @@ module _ (w s : List ℕ) (nr : ℕ) where
 
   -- decrypting, the rows are back when a round begins, and the round keys are counted down
   unfoldable pub invRoundWorked : ℕ → Parts → Parts
-  invRoundWorked n b = each (unless (eqb (suc n) nr) restored) (maskedAddRoundKey w (nr - suc n) (maskedSubBytes Decrypt s n b))
+  invRoundWorked n b = each (exceptLast (eqb (suc n) nr) restored) (maskedAddRoundKey w (nr - suc n) (maskedSubBytes Decrypt s n b))
 
   unfoldable pub invWorked : ℕ → Parts → Parts
   invWorked zero b = b

@@ -12,7 +12,7 @@ use Rattle.fips197.proofs.Below.{below-or-not}
 use Rattle.refusal.specs.Answer.{first}
 use Rattle.strip.specs.Strip.{wholeRecord, recordPart}
 use Rattle.aes.specs.Steps.{onState}
-use Rattle.masked_steps.specs.Steps.{recordAt, Parts, onStates, unless, restored}
+use Rattle.masked_steps.specs.Steps.{recordAt, Parts, onStates, exceptLast, restored}
 
 -- a part holds a whole record or nothing
 abbrev Whole : List ℕ → Type 0
@@ -48,12 +48,12 @@ module _ (s l : List ℕ) (i : ℕ) (e : l ≡ recordPart s i) where
 
 -- the last round, and any other
 module _ (f : List ℕ → List ℕ) (l x : List ℕ) (last : Bool) where
-  pub at-last : last ≡ true → x ≡ l → x ≡ unless last f l
-  unfolding unless
+  pub at-last : last ≡ true → x ≡ l → x ≡ exceptLast last f l
+  unfolding exceptLast
   at-last h e = rw h e
 
-  pub before-last : last ≡ false → x ≡ f l → x ≡ unless last f l
-  unfolding unless
+  pub before-last : last ≡ false → x ≡ f l → x ≡ exceptLast last f l
+  unfolding exceptLast
   before-last h e = rw h e
 
 pub restored-by : (l x y : List ℕ) → x ≡ onState invMixColumns l → y ≡ onState invShiftRows x → y ≡ restored l

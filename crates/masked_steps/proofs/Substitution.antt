@@ -17,14 +17,13 @@ use Rattle.inversion.specs.declared.Masked.{Masked}
 use Rattle.inversion.specs.declared.Masked.the-variants.{Byte, Refused}
 use Rattle.inversion.specs.Answers.{byteAndMask}
 use Rattle.sbox.specs.declared.Direction.{Direction}
-use Rattle.sbox.specs.Sbox.{newByte, newMask}
-use Rattle.sbox.specs.Sbox as sbox
-use Rattle.masked_steps.specs.Steps.{recordAt, boxed, substituted, maskedSubBytes}
+use Rattle.sbox.specs.Sbox.{newByte, newMask, substituted}
+use Rattle.masked_steps.specs.Steps.{recordAt, boxed, allBoxed, maskedSubBytes}
 use Rattle.masked_steps.proofs.Parts.{on-states, no-data, no-mask}
 
 -- ---- one byte
 
-module _ (dir : Direction) (d m : ℕ) (ρ : Record) (v : Masked) (e : byteAndMask v ≡ sbox.substituted dir d m ρ) where
+module _ (dir : Direction) (d m : ℕ) (ρ : Record) (v : Masked) (e : byteAndMask v ≡ substituted dir d m ρ) where
   served : (x y : ℕ) → v ≡ Byte x y → _≡_ {A = ℕ × ℕ} (x, y) (boxed dir d m ρ)
   unfolding boxed
   served x y f =
@@ -60,28 +59,28 @@ module _ (dir : Direction) (s : List ℕ) (n : ℕ) (d m : List ℕ) where
   went-no-mask h g = no-mask _ d m h g
 
   abbrev newData : List ℕ
-  newData = substituted dir s n (d, m) .0
+  newData = allBoxed dir s n (d, m) .0
 
   abbrev newMasks : List ℕ
-  newMasks = substituted dir s n (d, m) .1
+  newMasks = allBoxed dir s n (d, m) .1
 
   data-long : length newData ≡ 16
-  unfolding substituted
+  unfolding allBoxed
   data-long = length-state _
 
   mask-long : length newMasks ≡ 16
-  unfolding substituted
+  unfolding allBoxed
   mask-long = length-state _
 
   abbrev new : ℕ → ℕ × ℕ
   new i = boxed dir (getD d i 0) (getD m i 0) (recordAt s (16 * n + i))
 
   data-at : (i : ℕ) → i < 16 → getD newData i 0 ≡ new i .0
-  unfolding substituted
+  unfolding allBoxed
   data-at i h = get-state _ i h ∙ rw (cell-at d i, cell-at m i, place i) refl
 
   mask-at : (i : ℕ) → i < 16 → getD newMasks i 0 ≡ new i .1
-  unfolding substituted
+  unfolding allBoxed
   mask-at i h = get-state _ i h ∙ rw (cell-at d i, cell-at m i, place i) refl
 
   -- what the loop keeps: D and M are the parts so far
@@ -113,7 +112,7 @@ module _ (dir : Direction) (s : List ℕ) (n : ℕ) (d m : List ℕ) where
         }
 
     -- what the S-box answered: a byte of each part, or a refusal; D′ and M′ are the parts after this position
-    module _ (D′ M′ : List ℕ) (ρ : Record) (v : Masked) (h : i < 16) (r : ρ ≡ recordAt s (16 * n + i)) (e : byteAndMask v ≡ sbox.substituted dir (getD D i 0) (getD M i 0) ρ) where
+    module _ (D′ M′ : List ℕ) (ρ : Record) (v : Masked) (h : i < 16) (r : ρ ≡ recordAt s (16 * n + i)) (e : byteAndMask v ≡ substituted dir (getD D i 0) (getD M i 0) ρ) where
       pub went-more : (x y : ℕ) → v ≡ Byte x y → D′ ≡ set D i x → M′ ≡ set M i y → Went D′ M′ (i + 1)
       went-more x y f p q = rw (p, q) (went-stored x y ρ h r (served dir (getD D i 0) (getD M i 0) ρ v e x y f))
 
@@ -124,5 +123,5 @@ module _ (dir : Direction) (s : List ℕ) (n : ℕ) (d m : List ℕ) where
     pub went-all : i ≡ 16 → (D, M) ≡ maskedSubBytes dir s n (d, m)
     unfolding maskedSubBytes
     went-all h =
-        on-states (substituted dir s n) d m hd hm (D, M)
+        on-states (allBoxed dir s n) d m hd hm (D, M)
         (ap₂ (λ (x y : List ℕ). (x, y)) (front-done newData d D i (went .isD) (data-long ∙ sym hd) (omega arith)) (front-done newMasks m M i (went .isM) (mask-long ∙ sym hm) (omega arith)))

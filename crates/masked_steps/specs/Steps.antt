@@ -29,17 +29,17 @@ unfoldable pub boxed : Direction → ℕ → ℕ → Record → ℕ × ℕ
 boxed dir d m ρ = first ((2, above 3 (ρ .r)) ∷ []) (λ _. (d, m)) (newByte dir d m ρ, newMask dir ρ)
 
 -- every byte of the state through its S-box, in round n of the work, from 0: sixteen records a round, by position in the state
-unfoldable pub substituted : Direction → List ℕ → ℕ → Parts → Parts
-substituted dir s n b =
+unfoldable pub allBoxed : Direction → List ℕ → ℕ → Parts → Parts
+allBoxed dir s n b =
     let at : ℕ → ℕ → ℕ × ℕ = λ r c. boxed dir (cell (b .0) r c) (cell (b .1) r c) (recordAt s (16 * n + (r + 4 * c))) in
     (state (λ r c. at r c .0), state (λ r c. at r c .1))
 
 unfoldable pub maskedSubBytes : Direction → List ℕ → ℕ → Parts → Parts
-maskedSubBytes dir s n b = onStates (substituted dir s n) b
+maskedSubBytes dir s n b = onStates (allBoxed dir s n) b
 
 -- what every round does but the last
-unfoldable pub unless : Bool → (List ℕ → List ℕ) → List ℕ → List ℕ
-unless last f l = cond last l (f l)
+unfoldable pub exceptLast : Bool → (List ℕ → List ℕ) → List ℕ → List ℕ
+exceptLast last f l = cond last l (f l)
 
 -- what follows the round key when decrypting: the columns of this round, and the rows of the next
 unfoldable pub restored : List ℕ → List ℕ

@@ -2,7 +2,7 @@
 ghost use mathlib.Core.Path.{_≡_};
 ghost use Rattle.fips197.specs.Cipher.{mixColumns};
 ghost use Rattle.aes.specs.Steps.{onState};
-ghost use Rattle.masked_steps.specs.Steps.{recordAt, maskedSubBytes, unless, restored};
+ghost use Rattle.masked_steps.specs.Steps.{recordAt, maskedSubBytes, exceptLast, restored};
 use inversion::Masked;
 use sbox::Direction;
 use tower::Record;
@@ -53,7 +53,7 @@ pub fn substitute_bytes(
 
 // Every round but the last mixes the columns of each part.
 pub fn mix(part: &mut [u8], last: bool)
-    ensures { λ _. ⌜ now (part .exit) ≡ unless last (onState mixColumns) (now (part .entry)) ⌝ }
+    ensures { λ _. ⌜ now (part .exit) ≡ exceptLast last (onState mixColumns) (now (part .entry)) ⌝ }
 {
     if last {
         return;
@@ -63,7 +63,7 @@ pub fn mix(part: &mut [u8], last: bool)
 
 // Every round but the last mixes the columns of each part back, and shifts back the rows, with which the next round begins.
 pub fn restore(part: &mut [u8], last: bool)
-    ensures { λ _. ⌜ now (part .exit) ≡ unless last restored (now (part .entry)) ⌝ }
+    ensures { λ _. ⌜ now (part .exit) ≡ exceptLast last restored (now (part .entry)) ⌝ }
 {
     if last {
         return;

@@ -8,17 +8,17 @@ use lib.Dec.{eqb}
 use Rattle.fips197.specs.Cipher.{shiftRows, mixColumns, invShiftRows}
 use Rattle.aes.specs.Steps.{onState, keyed}
 use Rattle.sbox.specs.declared.Direction.the-variants.{Encrypt, Decrypt}
-use Rattle.masked_steps.specs.Steps.{Parts, maskedSubBytes, unless, restored}
+use Rattle.masked_steps.specs.Steps.{Parts, maskedSubBytes, exceptLast, restored}
 use Rattle.masked_rounds.specs.Rounds.{maskedAddRoundKey, roundWorked, worked, maskedCipher, invRoundWorked, invWorked, maskedInvCipher}
 
 -- the steps of one round: d, m and what they become
 module _ (w s : List ℕ) (nr n : ℕ) (d m d1 m1 d2 m2 d3 : List ℕ) where
-  pub round-done : (m3 d4 : List ℕ) → (d1, m1) ≡ maskedSubBytes Encrypt s n (d, m) → d2 ≡ onState shiftRows d1 → m2 ≡ onState shiftRows m1 → d3 ≡ unless (eqb (n + 1) nr) (onState mixColumns) d2
-      → m3 ≡ unless (eqb (n + 1) nr) (onState mixColumns) m2 → d4 ≡ keyed d3 w (n + 1) → (d4, m3) ≡ roundWorked w s nr n (d, m)
+  pub round-done : (m3 d4 : List ℕ) → (d1, m1) ≡ maskedSubBytes Encrypt s n (d, m) → d2 ≡ onState shiftRows d1 → m2 ≡ onState shiftRows m1 → d3 ≡ exceptLast (eqb (n + 1) nr) (onState mixColumns) d2
+      → m3 ≡ exceptLast (eqb (n + 1) nr) (onState mixColumns) m2 → d4 ≡ keyed d3 w (n + 1) → (d4, m3) ≡ roundWorked w s nr n (d, m)
   unfolding roundWorked maskedAddRoundKey
   round-done m3 d4 e1 e2 e3 e4 e5 e6 = rw (← e1, ← add-one, ← e2, ← e3, ← e4, ← e5, e6) refl
 
-  pub inv-round-done : (d1, m1) ≡ maskedSubBytes Decrypt s n (d, m) → m2 ≡ unless (eqb (n + 1) nr) restored m1 → d2 ≡ keyed d1 w (nr - (n + 1)) → d3 ≡ unless (eqb (n + 1) nr) restored d2
+  pub inv-round-done : (d1, m1) ≡ maskedSubBytes Decrypt s n (d, m) → m2 ≡ exceptLast (eqb (n + 1) nr) restored m1 → d2 ≡ keyed d1 w (nr - (n + 1)) → d3 ≡ exceptLast (eqb (n + 1) nr) restored d2
       → (d3, m2) ≡ invRoundWorked w s nr n (d, m)
   unfolding invRoundWorked maskedAddRoundKey
   inv-round-done e1 e2 e3 e4 = rw (← e1, ← add-one, ← e2, ← e3, e4) refl
