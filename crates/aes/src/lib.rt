@@ -1,4 +1,6 @@
 // ShiftRows, its inverse and AddRoundKey of FIPS 197, each on one part alone, data or mask.
+#![tactic(auto)]
+
 ghost use Rattle.std.specs.Prelude.{◌≡◌, ◌<◌, length};
 ghost use Rattle.fips197.specs.Cipher.{◌⊞◌, shift_rows, inv_shift_rows};
 ghost use Rattle.aes.specs.Steps.{on_state, keyed};

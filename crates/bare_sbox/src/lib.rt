@@ -1,4 +1,6 @@
 // The S-box on a bare byte, for key expansion; and the linear parts of its affine step and of the inverse, which the masked S-box takes too.
+#![tactic(auto)]
+
 ghost use Rattle.std.specs.Prelude.{◌≡◌};
 ghost use Rattle.fips197.specs.Cipher.{linear, inv_linear, sbox};
 

@@ -1,4 +1,6 @@
 // What a block call refuses, in its order: from the lengths of its parts and the strip.
+#![tactic(auto)]
+
 ghost use Rattle.std.specs.Prelude.{◌≡◌, ◌||◌};
 ghost use Rattle.refusal.specs.Refusal.{failed};
 ghost use Rattle.refusal.specs.Answer.{first, done, refused, is_not, outcome};

@@ -1,5 +1,7 @@
 // The one computation of the masked inversion: its 62 points, made straight through. Every product and every running sum is stored in its cell as soon as it is made,
 // so the compiler has no sum to reorder; no two cells stand side by side, so it has no part to put beside its mask.
+#![tactic(auto)]
+
 ghost use Rattle.std.specs.Prelude.{◌≡◌, [], ◌∷◌, ℕ, ◌+◌, ◌*◌, ◌%◌, ◌<◌, length, get_or, set};
 ghost use Rattle.fips197.specs.Field.{◌⊕◌};
 ghost use Rattle.refusal.specs.Part.{on_length};
@@ -12,7 +14,7 @@ use tower::Record;
 mod lookup;
 
 // What masks alone determine and later parts need: halves of the mask and of Q, rows of the product tables, and four points.
-#[derive(Drop)]
+#[derive(Clone, Copy)]
 struct Masks {
     m1: u32,
     m0: u32,
@@ -29,7 +31,7 @@ struct Masks {
 }
 
 // The halves of the masked byte, b, which is point 14, and the products of T.
-#[derive(Drop)]
+#[derive(Clone, Copy)]
 struct Nibbles {
     a1: u32,
     a0: u32,
@@ -41,7 +43,7 @@ struct Nibbles {
 }
 
 // The halves of b, point 28 and the products of point 30.
-#[derive(Drop)]
+#[derive(Clone, Copy)]
 struct Pairs {
     b1: u32,
     b0: u32,

@@ -1,4 +1,6 @@
 // The masked block calls: every check first, then the rounds of FIPS 197 on data and mask, then the strip is wiped.
+#![tactic(auto)]
+
 ghost use Rattle.std.specs.Prelude.{◌≡◌, ◌<◌, ◌≤◌, length};
 ghost use Rattle.refusal.specs.Answer.{outcome};
 ghost use Rattle.sbox.specs.declared.Direction.TheVariants as way;

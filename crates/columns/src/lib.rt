@@ -1,4 +1,6 @@
 // MixColumns of FIPS 197 and its inverse, on one part alone, data or mask, and the doubling that they and key expansion are made of.
+#![tactic(auto)]
+
 ghost use Rattle.std.specs.Prelude.{◌≡◌, length};
 ghost use Rattle.fips197.specs.Field.{xtime};
 ghost use Rattle.fips197.specs.Cipher.{mix_columns, inv_mix_columns};

@@ -1,4 +1,6 @@
 // What the entries for a host in C check before all else: the number of the direction, and the lengths that the S-box is lent.
+#![tactic(auto)]
+
 ghost use Rattle.std.specs.Prelude.{◌≡◌};
 ghost use Rattle.refusal.specs.Refusal.{failed};
 ghost use Rattle.refusal.specs.Answer.{done, refused, first, outcome};

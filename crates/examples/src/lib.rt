@@ -1,1 +1,2 @@
 // Fourteen worked examples, P1 to P14: one table and one statement, no code.
+#![tactic(auto)]

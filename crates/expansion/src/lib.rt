@@ -1,4 +1,6 @@
 // Key expansion of FIPS 197, from a bare key to bare round keys. Jumps and indices hang on lengths and places alone, never on a byte of the key.
+#![tactic(auto)]
+
 ghost use Rattle.std.specs.Prelude.{◌≡◌, ◌+◌, ◌-◌, ◌*◌, ◌≤◌, ◌<◌, length, take};
 ghost use Rattle.fips197.specs.Cipher.{word, rcon, temp, expanded, key_expansion};
 ghost use Rattle.refusal.specs.Answer.{outcome};
@@ -57,7 +59,7 @@ fn expand_words(nk: usize, w: &mut [u8], words: usize)
     while i < words {
         let at = 4 * i;
         let next = next_word(nk, i, &w[..at]);
-        bytes::copy(&next, &mut w[at..at + 4]);
+        w[at..at + 4].copy_from_slice(&next);
         i += 1;
     }
 }
@@ -67,7 +69,7 @@ fn key_expansion(nk: usize, nr: usize, key: &[u8], w: &mut [u8])
     requires { (0 < nk) × ((nk ≤ nr) × ((length key.now ≡ 4 * nk) × (length w.old ≡ 16 * (nr + 1)))) }
     ensures { w.new ≡ key_expansion nk nr key.now }
 {
-    bytes::copy(key, w);
+    w[..key.len()].copy_from_slice(key);
     expand_words(nk, w, 4 * (nr + 1));
 }
 

@@ -50,7 +50,7 @@ pub data Each (P : ℕ → Type 0) : ℕ → Type 0 where
   none : Each P zero
   ◌▸◌ : {n : ℕ} → Each P n → P n → Each P (suc n)
 
-pub each_at : {n : ℕ} {P : ℕ → Type 0} → Each P n → (k : ℕ) → k < n → P k
+pub each_at : {P : ℕ → Type 0} {n : ℕ} → Each P n → (k : ℕ) → k < n → P k
 each_at none k h = absurd (not-suc-le-zero h)
 each_at {P} (ps ▸ p) k h =
     ⊎_elim (λ e. subst P (sym e) p) (λ l. each_at ps k l) (eq-or-lt_of_le (le_of_suc-le-suc h))

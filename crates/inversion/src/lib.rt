@@ -1,4 +1,6 @@
 // The masked inversion on tower bytes, with and without its 62 points.
+#![tactic(auto)]
+
 ghost use Rattle.std.specs.Prelude.{◌≡◌};
 ghost use Rattle.refusal.specs.Refusal.{failed};
 ghost use Rattle.refusal.specs.Answer.{above};

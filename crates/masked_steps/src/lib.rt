@@ -1,4 +1,6 @@
 // The steps of a masked round: SubBytes on data and mask together, and on each part alone what follows it. Each is total.
+#![tactic(auto)]
+
 ghost use Rattle.std.specs.Prelude.{◌≡◌};
 ghost use Rattle.fips197.specs.Cipher.{mix_columns};
 ghost use Rattle.aes.specs.Steps.{on_state};

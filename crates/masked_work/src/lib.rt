@@ -1,4 +1,6 @@
 // The rounds of FIPS 197 on data and mask, one after the other, in each direction.
+#![tactic(auto)]
+
 ghost use Rattle.std.specs.Prelude.{◌≡◌, ◌<◌};
 ghost use Rattle.masked_rounds.specs.Rounds.{round_worked, masked_cipher, inv_round_worked, masked_inv_cipher};
 

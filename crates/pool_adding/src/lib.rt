@@ -1,4 +1,6 @@
 // A strip added to the mirrored pool, at the master that adds and takes: the active one, or its standby once it goes on alone. A state of nine bytes and 64 rooms, both lent by the host.
+#![tactic(auto)]
+
 ghost use Rattle.std.specs.Prelude.{◌≡◌, true, length};
 ghost use Rattle.refusal.specs.Answer.{passes, outcome};
 ghost use Rattle.pool_state.specs.State.{state_in};

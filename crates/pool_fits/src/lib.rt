@@ -1,4 +1,6 @@
 // Whether a message is one that a standby applies: of good form, and not beyond the next.
+#![tactic(auto)]
+
 ghost use Rattle.std.specs.Prelude.{◌≡◌, [], not, drop};
 ghost use Rattle.refusal.specs.Refusal.{failed};
 ghost use Rattle.pool_message.specs.Message.{read_of};

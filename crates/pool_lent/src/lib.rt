@@ -1,4 +1,6 @@
 // Whether a call of the pool is lent what it must be: a state that a run of calls makes, rooms of their size, and further parts of theirs. Where not, 6 applies.
+#![tactic(auto)]
+
 ghost use Rattle.std.specs.Prelude.{◌≡◌};
 ghost use Rattle.refusal.specs.Refusal.{failed};
 ghost use Rattle.pool_lent.specs.Lent.{not_lent, not_lent_with, not_lent_out};

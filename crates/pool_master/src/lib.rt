@@ -1,4 +1,6 @@
 // What a master's state decides by itself: refusals of its calls, its role once it sends, and which acknowledgement counts.
+#![tactic(auto)]
+
 ghost use Rattle.std.specs.Prelude.{◌≡◌, [], ◌∷◌};
 ghost use Rattle.refusal.specs.Refusal.{failed};
 ghost use Rattle.refusal.specs.Answer.{done, refused, first, outcome};

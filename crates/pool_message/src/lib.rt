@@ -1,4 +1,6 @@
 // Messages between the masters as bytes.
+#![tactic(auto)]
+
 ghost use Rattle.std.specs.Prelude.{◌≡◌};
 ghost use Rattle.refusal.specs.Refusal.{failed};
 ghost use Rattle.pool_message.specs.Message.{front_bytes, acknowledgement, misframed, read_of, sequence};
@@ -6,7 +8,7 @@ ghost use Rattle.pool_message.specs.Message.{front_bytes, acknowledgement, misfr
 use refusal::Check;
 
 // What was sent: an addition and a taking with their sequence number and the strip's number, or an acknowledgement.
-#[derive(Drop)]
+#[derive(Clone, Copy)]
 pub enum Message {
     Adds(u32, u32),
     Takes(u32, u32),

@@ -1,4 +1,6 @@
 // The numbers of a pool as bytes, in messages, in states and beside a strip: four bytes, big-endian.
+#![tactic(auto)]
+
 ghost use Rattle.std.specs.Prelude.{◌≡◌, [], ◌∷◌, ◌<◌, get_or};
 ghost use Rattle.pool_numbers.specs.Numbers.{number_bytes, number_at};
 

@@ -1,4 +1,6 @@
 // The rooms of a pool: 64 of 676 bytes in one lent part. Where each begins, a strip put into one, and one zeroed.
+#![tactic(auto)]
+
 ghost use Rattle.std.specs.Prelude.{◌≡◌, ◌+◌, ◌*◌, ◌%◌, ◌≤◌, List, length};
 ghost use Rattle.refusal.specs.Part.{on_length};
 ghost use Rattle.pool_rooms.specs.Rooms.{rooms_size, padded, filled_by, cleared};
@@ -16,7 +18,7 @@ fn fill(from: &[u8], part: &mut [u8])
     ensures { part.new ≡ padded (length part.old) from.now }
 {
     strip::zero(part);
-    bytes::copy(from, part);
+    part[..from.len()].copy_from_slice(from);
 }
 
 // Rooms of another length and a strip that no room can hold leave everything as it is.

@@ -1,4 +1,6 @@
 // The message that a master has outstanding, as bytes for the host to send. Nothing changes by it, so it is read out as often as the host likes.
+#![tactic(auto)]
+
 ghost use Rattle.std.specs.Prelude.{◌≡◌, true, ◌++◌, ◌-◌, ◌<◌, ◌≤◌, length, drop, replicate};
 ghost use Rattle.refusal.specs.Answer.{outcome, passes};
 ghost use Rattle.pool_numbers.specs.Numbers.{number_bytes};
@@ -18,8 +20,8 @@ fn write_front(follows: u16, kind: u8, sequence: u32, number: u32, message: &mut
 {
     let front = pool_message::front_bytes(follows, kind, sequence);
     let last = pool_numbers::number_bytes(number);
-    bytes::copy(&front, message);
-    bytes::copy(&last, &mut message[8..688]);
+    message[..8].copy_from_slice(&front);
+    message[8..12].copy_from_slice(&last);
 }
 
 // How many bytes of a room are its strip, whatever the room holds.
@@ -43,7 +45,7 @@ fn write_addition(master: State, rooms: &[u8], message: &mut [u8])
     let start = pool_rooms::room_start(master.added - 1);
     let size = strip_size(&rooms[start..start + 676]);
     let end = start + (size as usize);
-    bytes::copy(&rooms[start..end], &mut message[12..688]);
+    message[12..12 + (size as usize)].copy_from_slice(&rooms[start..end]);
     write_front(
         10 + size,
         1,

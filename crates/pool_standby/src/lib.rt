@@ -1,4 +1,6 @@
 // The mirrored pool of strips at the standby: it applies the active's messages, and goes on alone when the active is dead.
+#![tactic(auto)]
+
 ghost use Rattle.std.specs.Prelude.{◌≡◌, true, ◌<◌, length, drop};
 ghost use Rattle.refusal.specs.Answer.{outcome, passes};
 ghost use Rattle.pool_message.specs.Message.{read_of, acknowledgement};
@@ -17,7 +19,7 @@ fn write_acknowledgement(sequence: u32, part: &mut [u8])
     ensures { part.new ≡ acknowledgement sequence }
 {
     let all = pool_message::acknowledgement_bytes(sequence);
-    bytes::copy(&all, part);
+    part.copy_from_slice(&all);
 }
 
 // The next message is applied: the strip is put into its room, or the room of the one taken is zeroed.

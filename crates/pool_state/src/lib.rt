@@ -1,4 +1,6 @@
 // A master's state: nine bytes that the host keeps. It is read, written and held against what a run of calls can make.
+#![tactic(auto)]
+
 ghost use Rattle.std.specs.Prelude.{◌≡◌, ◌<◌};
 ghost use Rattle.refusal.specs.Refusal.{failed};
 ghost use Rattle.refusal.specs.Part.{on_length};
@@ -8,7 +10,7 @@ use refusal::Check;
 
 // The roles: 0 active with nothing outstanding, 1 with an addition, 2 with a taking outstanding, 3 standby, 4 alone.
 // Strips are numbered one by one and the lowest is taken first, so the two counts say which are held and which number is next.
-#[derive(Drop)]
+#[derive(Clone, Copy)]
 pub struct State {
     pub role: u8,
     pub added: u32,
@@ -56,7 +58,7 @@ pub fn write(role: u8, added: u32, taken: u32, state: &mut [u8])
 {
     if state.len() == 9 {
         let all = state_bytes(State { role, added, taken });
-        bytes::copy(&all, state);
+        state.copy_from_slice(&all);
     }
 }
 

@@ -1,4 +1,6 @@
 // Strips taken out of the mirrored pool, and handed out once that is acknowledged: at the active master, or at its standby once it goes on alone, where a strip is handed out at once. A state of nine bytes and 64 rooms, both lent by the host.
+#![tactic(auto)]
+
 mod parts;
 mod steps;
 

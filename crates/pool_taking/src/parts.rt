@@ -9,7 +9,7 @@ pub fn write_number(n: u32, part: &mut [u8])
     ensures { part.new ≡ number_bytes n }
 {
     let number = pool_numbers::number_bytes(n);
-    bytes::copy(&number, part);
+    part.copy_from_slice(&number);
 }
 
 // The strip that has n before it leaves its room, which is zeroed.
@@ -19,7 +19,7 @@ pub fn hand_out(rooms: &mut [u8], n: u32, number: &mut [u8], strip: &mut [u8])
     ensures { (rooms.new, (number.new, strip.new)) ≡ handing rooms.old n }
 {
     let start = pool_rooms::room_start(n);
-    bytes::copy(&rooms[start..start + 676], strip);
+    strip.copy_from_slice(&rooms[start..start + 676]);
     pool_rooms::clear(rooms, n);
     write_number(n + 1, number);
 }

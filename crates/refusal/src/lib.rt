@@ -1,4 +1,6 @@
 // Refusals: the kind of thing refused together with its number, the answers of a check and of a call without a value, and the checks that every crate shares.
+#![tactic(auto)]
+
 ghost use Rattle.std.specs.Prelude.{◌≡◌, [], ◌∷◌, ◌||◌};
 ghost use Rattle.refusal.specs.Refusal.{number, failed};
 ghost use Rattle.refusal.specs.Answer.{refused, above, is_not, none_of, answer_number, outcome};

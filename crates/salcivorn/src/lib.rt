@@ -1,4 +1,6 @@
 // What a host in C sees: the S-box, expansion and the block on numbers and byte slices. Each answers with the refusal's number, 0 for done.
+#![tactic(auto)]
+
 ghost use Rattle.std.specs.Prelude.{◌≡◌, length};
 ghost use Rattle.refusal.specs.Answer.{answer_number};
 ghost use Rattle.inversion.specs.Answers.{byte_and_mask};

@@ -1,4 +1,6 @@
 // What a host in C sees of the pool: its calls on byte slices. Each answers with the refusal's number, 0 for done.
+#![tactic(auto)]
+
 ghost use Rattle.std.specs.Prelude.{◌≡◌};
 ghost use Rattle.refusal.specs.Answer.{numbered};
 ghost use Rattle.pool_sending.specs.Outstanding.{outstanding_of};

@@ -1,4 +1,6 @@
 // The masked S-box and its inverse, with and without points.
+#![tactic(auto)]
+
 ghost use Rattle.std.specs.Prelude.{◌≡◌};
 ghost use Rattle.inversion.specs.Answers.{byte_and_mask};
 ghost use Rattle.sbox.specs.Sbox.{enter, leave, substituted, substituted_with_points};
@@ -7,7 +9,7 @@ use inversion::Masked;
 use refusal::{Check, Refusal};
 use tower::Record;
 
-#[derive(Drop)]
+#[derive(Clone, Copy)]
 pub enum Direction {
     Encrypt,
     Decrypt,

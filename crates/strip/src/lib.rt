@@ -1,4 +1,6 @@
 // Strips: their form, the checks of their first bytes, the reader of records and the wipe.
+#![tactic(auto)]
+
 ghost use Rattle.std.specs.Prelude.{◌≡◌, length, replicate};
 ghost use Rattle.refusal.specs.Refusal.{failed};
 ghost use Rattle.strip.specs.Strip.{version, bad_framing, spent, unknown_version, record_part, wiped};

@@ -1,4 +1,6 @@
 // What is refused of a strip, in its order: 7, 11, 8, 9, 12, 10.
+#![tactic(auto)]
+
 ghost use Rattle.std.specs.Prelude.{◌≡◌, ◌≤◌, length};
 ghost use Rattle.refusal.specs.Refusal.{failed};
 ghost use Rattle.refusal.specs.Answer.{done, refused, first, outcome};

@@ -1,4 +1,6 @@
 // The tower GF(((2^2)^2)^2): pairs, nibbles and tower bytes, the changes of basis.
+#![tactic(auto)]
+
 ghost use Rattle.std.specs.Prelude.{◌≡◌, ◌*◌, ◌<◌, length, [], ◌∷◌, ◌||◌};
 ghost use Rattle.refusal.specs.Refusal.{failed};
 ghost use Rattle.refusal.specs.Answer.{first, done, refused, above};
@@ -18,7 +20,7 @@ pub enum Element {
 }
 
 // Three bytes of a strip: Q in the high nibble and T in the low nibble; S in tower form; r, from 0 to 3.
-#[derive(Drop)]
+#[derive(Clone, Copy)]
 pub struct Record {
     pub qt: u8,
     pub s: u8,

@@ -1,4 +1,6 @@
 // Words of four bytes, as key expansion makes them: RotWord, SubWord, the sum, and the powers of x for Rcon.
+#![tactic(auto)]
+
 ghost use Rattle.std.specs.Prelude.{◌≡◌};
 ghost use Rattle.fips197.specs.Cipher.{◌⊞◌, rot_word, sub_word, power};
 

@@ -1,0 +1,11 @@
+-- `cells::lookup::row` meets its contract: from the computed test of the product table of nibbles. Assumes nothing.
+use borrow.Author.Rules.{rules}
+use Rattle.fips197.specs.Field.{field}
+use Rattle.tower.specs.Tower.{tower}
+use Rattle.cells.specs.Cells.{entry}
+use Rattle.cells.proofs.Lookups.{row_made}
+use Rattle.cells.proofs.lookup.row.Goals as goal
+
+pub returns : goal.returns
+unfolding tower field entry
+returns c = row_made _ _ _ _ tt c.args.x

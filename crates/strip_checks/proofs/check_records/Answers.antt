@@ -1,0 +1,17 @@
+-- `strip_checks::check_records` meets its contract: the loop's invariant: the records passed are not bad, so the rest decides. Assumes nothing.
+use mathlib.Core.Path.{◌≡◌, refl}
+use Prim.Native.Nat.{◌+◌, ◌*◌, ◌/◌, ◌≤◌, ◌-◌}
+use native.Mathlib.Omega.{arith}
+use lib.ListN.{drop, length}
+use Rattle.strip.specs.Strip.{bad_record, bad_third}
+use Rattle.strip_checks.proofs.Laws.{third_stop, third_on, third_all}
+use Rattle.strip_checks.proofs.check_records.Goals as goal
+
+pub returns-then-strip-index-gt3 : goal.returns-then-strip-index-gt3
+returns-then-strip-index-gt3 c = third_stop _ c.loop-index.index c.loop-index.invariant.1 (omega arith) c.if-strip-index-gt3.true
+
+pub loop-index-preserved : goal.loop-index-preserved
+loop-index-preserved c = (omega arith, third_on _ c.loop-index.index c.loop-index.invariant.1 (omega arith) c.if-strip-index-gt3.false)
+
+pub returns : goal.returns
+returns c = third_all _ c.loop-index.index c.loop-index.invariant.1 (omega arith)

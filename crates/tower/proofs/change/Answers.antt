@@ -1,0 +1,21 @@
+-- `tower::change` meets its contract: the loop's invariant: the columns passed, added, and what the rest add up to. Assumes nothing.
+use mathlib.Core.Path.{◌≡◌}
+use Prim.Native.Nat.{ℕ, ◌≤◌, ◌-◌}
+use native.Mathlib.Omega.{arith}
+use lib.ListN.{drop}
+use borrow.Author.Rules.{rules}
+use Rattle.fips197.specs.Field.{◌⊕◌}
+use Rattle.fips197.proofs.Xor.{zero_l}
+use Rattle.tower.specs.Tower.{added}
+use Rattle.tower.proofs.Leaf.{change_next, change_all}
+use Rattle.tower.proofs.change.Goals as goal
+
+pub loop-i-init : goal.loop-i-init
+loop-i-init c = (omega arith, zero_l _)
+
+pub loop-i-preserved : goal.loop-i-preserved
+unfolding ◌⊕◌
+loop-i-preserved c = (omega arith, change_next _ _ c.loop-i.i c.loop-i.sum _ c.requires (omega arith) c.column_at-sum.ensures c.loop-i.invariant.1)
+
+pub returns : goal.returns
+returns c = change_all _ _ c.loop-i.i _ c.requires (omega arith) c.loop-i.invariant.1
