@@ -4,7 +4,6 @@
 .PHONY: run quick test replay bench trace listing clean
 
 run:
-	@rt check known_answers salcivorn salcivorn_pool
 	@tests/build
 	@tests/run
 
@@ -31,4 +30,4 @@ listing:
 	@bash -c '. tests/tools.sh && $$EMULATOR build/listing all'
 
 clean:
-	rm -rf target build
+	rm -rf build crates/*/out

@@ -6,6 +6,7 @@ above() {
     while [ -n "$grown" ]; do
         grown=
         while IFS=: read -r name below; do
+            name=${name% staticlib}
             [[ $all == *" $name "* ]] && continue
             for dep in $below; do
                 [[ $all != *" $dep "* ]] || { all+="$name " grown=1; break; }
@@ -21,6 +22,7 @@ below() {
     while [ -n "$grown" ]; do
         grown=
         while IFS=: read -r name deps; do
+            name=${name% staticlib}
             [[ $all == *" $name "* ]] || continue
             for dep in $deps; do
                 [[ $all == *" $dep "* ]] || [ ! -d "crates/$dep" ] || all+="$dep " grown=1

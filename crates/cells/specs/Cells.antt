@@ -1,5 +1,5 @@
 -- The points in cells, and the order in which they are made. Only contracts of private functions cite this: no promise rests on it, and nobody need believe it.
-use Rattle.std.specs.Prelude.{ℕ, zero, suc, ◌+◌, ◌-◌, ◌*◌, ◌/◌, ◌%◌, ◌^◌, ◌≡◌, List, [], ◌∷◌, get_or, set, replicate}
+use Rattle.std.specs.Prelude.{ℕ, zero, suc, ◌-◌, ◌*◌, ◌/◌, ◌%◌, ◌^◌, ◌≡◌, List, [], ◌∷◌, get_or, set, replicate}
 use Rattle.fips197.specs.Field.{◌⊕◌}
 use Rattle.points.specs.Points.{record_points}
 use Rattle.tower.specs.Tower.{hi, lo, exchange, pair_product, nibble_product}

@@ -5,7 +5,7 @@ use mathlib.Core.List.{List, ◌++◌, append_assoc, append-nil}
 use native.Mathlib.Nat.{add-sub_cancel_left}
 use native.Mathlib.Omega.{arith}
 use lib.ListN.{length, take, drop, length-append, take-append-drop, length-take, length-drop, drop_of_length-le}
-use lib.Seq.{take-length, take_at, drop_at, drop-drop}
+use lib.Seq.{take_at, drop_at, drop-drop}
 use borrow.Rule.Slice.PartMut.{same_len_mid}
 use Rattle.fips197.specs.Cipher.{expanded}
 use Rattle.expansion.specs.Inner.{next_word}
@@ -32,11 +32,10 @@ module _ (w₀ : List ℕ) (nk words : ℕ) where
       }
 
   -- the next word a, copied into the four bytes at its place, is all that becomes of them
-  pub grew_more : (w a new : List ℕ) (i : ℕ) → Grew w₀ nk words w i → i < words → a ≡ next_word nk i (take (4 * i) w) → length a ≡ 4
-      → new ≡ take (length a) a ++ drop (length a) (take (4 * i + 4 - 4 * i) (drop (4 * i) w))
+  pub grew_more : (w a new : List ℕ) (i : ℕ) → Grew w₀ nk words w i → i < words → a ≡ next_word nk i (take (4 * i) w) → length a ≡ 4 → new ≡ a
       → Grew w₀ nk words (take (4 * i) w ++ (new ++ drop (4 * i + 4 - 4 * i) (drop (4 * i) w))) (i + 1)
   unfolding expanded next_word
-  grew_more w a new i g h e l c =
+  grew_more w a new i g h e l new_is =
       let G = expanded nk (i - nk) (take (4 * nk) w₀) in
       let n : i + 1 - nk ≡ suc (i - nk) = omega (arith, g.least) in
       let k : nk + (i - nk) ≡ i = omega (arith, g.least) in
@@ -45,8 +44,6 @@ module _ (w₀ : List ℕ) (nk words : ℕ) where
       let t : take (4 * i) w ≡ G = rw g.is (take_at G (drop (4 * i) w₀) (4 * i) g.front) in
       let d : drop (4 * i) w ≡ drop (4 * i) w₀ = rw g.is (drop_at G (drop (4 * i) w₀) (4 * i) g.front) in
       let a_is : a ≡ next_word nk i G = rw t at e in
-      let short : length (take (4 * i + 4 - 4 * i) (drop (4 * i) w)) ≤ length a = omega arith in
-      let new_is : new ≡ a = c ∙ rw (take-length, drop_of_length-le _ short, append-nil) refl in
       record {
         least = omega (arith, g.least);
         most = omega arith;

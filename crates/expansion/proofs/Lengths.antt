@@ -4,7 +4,7 @@ use mathlib.Core.Path.{◌≡◌, refl, ap, ◌∙◌}
 use mathlib.Core.List.{List, [], ◌∷◌, ◌++◌}
 use native.Mathlib.Omega.{arith}
 use lib.ListN.{length, take, drop}
-use lib.Seq.{take-length, take_at}
+use lib.Seq.{take_at}
 use Rattle.fips197.specs.Cipher.{expanded, key_expansion}
 use Rattle.refusal.specs.declared.Check.{Check}
 use Rattle.refusal.specs.declared.Check.TheVariants.{Passed}
@@ -28,8 +28,7 @@ sized n k e p =
     (λ q. sized_of n 32 q (omega arith) (omega arith) refl)
 
 -- the key copied to the front, and the words behind it
-pub key_expanded : (nk nr : ℕ) (key w₀ w₁ w₂ : List ℕ) → length key ≡ 4 * nk → w₁ ≡ take (length key) key ++ drop (length key) w₀
-    → w₂ ≡ expanded nk (4 * (nr + 1) - nk) (take (4 * nk) w₁) → w₂ ≡ key_expansion nk nr key
+pub key_expanded : (nk nr : ℕ) (key w₀ w₁ w₂ : List ℕ) → length key ≡ 4 * nk → w₁ ≡ key ++ drop (length key) w₀ → w₂ ≡ expanded nk (4 * (nr + 1) - nk) (take (4 * nk) w₁) → w₂ ≡ key_expansion nk nr key
 unfolding key_expansion
 key_expanded nk nr key w₀ w₁ w₂ h e f =
-    f ∙ ap (expanded nk (4 * (nr + 1) - nk)) (ap (take (4 * nk)) (e ∙ rw take-length refl) ∙ take_at key (drop (length key) w₀) (4 * nk) h)
+    f ∙ ap (expanded nk (4 * (nr + 1) - nk)) (ap (take (4 * nk)) e ∙ take_at key (drop (length key) w₀) (4 * nk) h)

@@ -5,7 +5,7 @@ use lib.ListN.{length, get_or, take, drop}
 use native.Mathlib.Omega.{arith}
 use Prim.Native.Nat.{ℕ, zero, suc, ◌+◌, ◌*◌, ◌%◌, ◌≤◌}
 use Rattle.fips197.specs.Field.{◌⊕◌}
-use Rattle.fips197.specs.Cipher.{◌⊞◌, cell, state, shift_rows, columns_by, mix_columns, round_key, inv_shift_rows, inv_mix_columns}
+use Rattle.fips197.specs.Cipher.{◌⊞◌, cell, state, shift_rows, columns_by, mix_columns, inv_shift_rows, inv_mix_columns}
 use Rattle.fips197.proofs.Xor.{sums, assoc, comm, zero_l, zero_r}
 use Rattle.fips197.proofs.Field.{product_right}
 

@@ -1,6 +1,6 @@
 -- FIPS 197, section 5: the cipher, the key expansion and the inverse cipher, in the standard's order and under its names.
 -- A word is four bytes, a state sixteen, column by column; round keys are the words one after the other, as bytes.
-use Rattle.std.specs.Prelude.{ℕ, zero, suc, ◌+◌, ◌-◌, ◌*◌, ◌/◌, ◌%◌, ◌^◌, List, [], ◌∷◌, ◌++◌, Bool, true, false, cond, get_or, take, drop, eqb, ltb}
+use Rattle.std.specs.Prelude.{ℕ, zero, suc, ◌+◌, ◌-◌, ◌*◌, ◌/◌, ◌%◌, ◌^◌, List, [], ◌∷◌, ◌++◌, cond, get_or, take, drop, eqb, ltb}
 use Rattle.fips197.specs.Field.{◌⊕◌, xtime, ◌•◌, inverse}
 
 -- 4.1 the sum of words and of states, byte by byte

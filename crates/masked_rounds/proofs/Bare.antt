@@ -2,15 +2,14 @@
 use Prim.Native.Nat.{ℕ, zero, suc, ◌+◌, ◌-◌, ◌*◌, ◌≤◌, ◌<◌}
 use native.Mathlib.Omega.{arith}
 use mathlib.Core.Path.{◌≡◌, refl, sym, ap, ap₂, ◌∙◌}
-use mathlib.Core.List.{List, [], ◌∷◌}
-use lib.ListN.{length, length-take, length-drop}
+use mathlib.Core.List.{List}
+use lib.ListN.{length, length-take}
 use borrow.Author.Tests.{eq-eqb, ne_eqb, le-ltb}
 use lib.Dec.{eqb}
 use Rattle.fips197.specs.Cipher.{◌⊞◌, cell, state, sub_bytes, shift_rows, columns_by, mix_columns, round_key, add_round_key, rounds, cipher, inv_shift_rows, inv_sub_bytes, inv_mix_columns, inv_rounds, inv_cipher}
 use Rattle.fips197.proofs.State.{plus_assoc, plus_comm, plus_off, length_plus, cell_plus, state_plus, state_ext, length_state, Linear, shift_linear, inv_shift_linear, mix_linear, inv_mix_linear}
 use Rattle.refusal.specs.Answer.{first}
 use Rattle.refusal.proofs.Part.{of_length}
-use Rattle.tower.specs.declared.Record.{Record}
 use Rattle.tower.specs.Claims.{Good}
 use Rattle.aes.specs.Steps.{on_state, keyed}
 use Rattle.aes.proofs.Chosen.{key_there}

@@ -9,7 +9,7 @@ use Rattle.fips197.specs.Cipher.{cell, state}
 use Rattle.fips197.proofs.State.{length_state}
 use Rattle.fips197.proofs.Undo.{cell_of}
 use Rattle.refusal.specs.declared.Refusal.{Refusal}
-use Rattle.refusal.specs.Answer.{Answer, done, refused, first, above}
+use Rattle.refusal.specs.Answer.{above}
 use Rattle.refusal.proofs.First.{all_passed, one_failed}
 use Rattle.aes.proofs.Front.{front, front_none, front_step, front_here, front_done}
 use Rattle.tower.specs.declared.Record.{Record}

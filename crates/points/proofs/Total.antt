@@ -1,5 +1,5 @@
 -- The sum over all settings, mask by mask: what does not depend on a mask counts once for each of its values. Assumes nothing.
-use mathlib.Core.Path.{◌≡◌, refl, ap, ◌∙◌}
+use mathlib.Core.Path.{◌≡◌, ap, ◌∙◌}
 use Prim.Native.Nat.{ℕ, ◌+◌, ◌*◌, ◌^◌, ◌<◌}
 use native.Mathlib.Omega.{arith}
 use Rattle.tower.specs.Tower.{hi, lo, exchange, tower}

@@ -2,15 +2,15 @@
 use Prim.Native.Nat.{ℕ, zero, suc, ◌+◌, ◌-◌, ◌*◌, ◌%◌, ◌<◌, ◌≤◌}
 use native.Mathlib.Omega.{arith}
 use mathlib.Core.Path.{◌≡◌, refl, sym, ap, ◌∙◌}
-use mathlib.Core.List.{List, [], ◌∷◌, ◌++◌, append_assoc, append-nil}
-use lib.ListN.{length, take, drop, replicate, length-append, length-drop, length-take, drop_of_length-le}
-use lib.Seq.{length-take-le, take_all, drop_at, drop-drop, take-take}
+use mathlib.Core.List.{List, [], ◌∷◌, ◌++◌, append_assoc}
+use lib.ListN.{length, take, drop, replicate, length-append, length-drop}
+use lib.Seq.{length-take-le, take_all, drop-drop, take-take}
 use borrow.Rule.Slice.PartMut.{put_mid}
 use Rattle.strip.specs.Strip.{length_field}
 use Rattle.pool_numbers.specs.Numbers.{number_bytes}
 use Rattle.pool_message.specs.Message.{front_bytes, addition, taking}
 use Rattle.pool_rooms.specs.Rooms.{room_at, padded, strip_in}
-use Rattle.pool_rooms.proofs.Places.{padded_is, room_read}
+use Rattle.pool_rooms.proofs.Places.{drop_zeros, room_read}
 
 -- ---- the strip in a room
 module _ (room : List ℕ) (l : length room ≡ 676) where
@@ -37,14 +37,9 @@ front_length : (follows kind k n : ℕ) → length (front_bytes follows kind k +
 unfolding front_bytes number_bytes
 front_length follows kind k n = refl
 
-pub front_copied : (follows kind k n : ℕ) (f l m a part : List ℕ) → length m ≡ 688 → f ≡ front_bytes follows kind k → l ≡ number_bytes n → a ≡ take (length f) f ++ drop (length f) m
-    → part ≡ take (length l) l ++ drop (length l) (take (688 - 8) (drop 8 a)) → put_mid 8 (688 - 8) a part ≡ (front_bytes follows kind k ++ number_bytes n) ++ drop 12 m
+pub front_copied : (follows kind k n : ℕ) (f l m : List ℕ) → f ≡ front_bytes follows kind k → l ≡ number_bytes n → put_mid 8 4 (f ++ drop 8 m) l ≡ (front_bytes follows kind k ++ number_bytes n) ++ drop 12 m
 unfolding front_bytes number_bytes
-front_copied follows kind k n f l m a part h p q r s =
-    let all : take 680 (drop 8 m) ≡ drop 8 m = take_all 680 (drop 8 m) (omega (arith, length-drop 8 m)) in
-    let none : drop 680 (drop 8 m) ≡ [] = drop_of_length-le (drop 8 m) {i = 680} (omega (arith, length-drop 8 m)) in
-    let behind : drop 4 (drop 8 m) ≡ drop 12 m = drop-drop 4 8 m in
-    rw (s, r, q, p, all, none, behind, append-nil (drop 12 m)) refl
+front_copied follows kind k n f l m p q = rw (q, p, drop-drop 4 8 m) refl
 
 -- zeros behind what stands in front
 behind : (f s : List ℕ) (a b : ℕ) → length f + b ≡ a → f ++ padded b s ≡ padded a (f ++ s)
@@ -53,16 +48,18 @@ behind f s a b e =
     let k : b - length s ≡ a - length (f ++ s) = omega (arith, length-append f s) in
     sym (append_assoc f s (replicate (b - length s) 0)) ∙ rw k refl
 
+-- a strip copied over zeros, behind the place of the first twelve bytes
+over_zeros : (s m part : List ℕ) (w : ℕ) → m ≡ replicate 688 0 → part ≡ s → w ≡ length s → drop 12 (put_mid 12 w m part) ≡ padded 676 s
+unfolding padded
+over_zeros s m part w z f v = rw (z, f, v, drop_zeros (length s) 676) refl
+
 module _ (k n : ℕ) where
-  pub addition_is : (s s' m part new new' : List ℕ) (l : ℕ) → length m ≡ 688 → s' ≡ s → l ≡ length s → new ≡ put_mid 12 676 m part → part ≡ padded 676 s'
+  pub addition_is : (s m part new new' : List ℕ) (l w : ℕ) → m ≡ replicate 688 0 → part ≡ s → l ≡ length s → w ≡ length s → new ≡ put_mid 12 w m part
       → new' ≡ (front_bytes (10 + l) 1 k ++ number_bytes n) ++ drop 12 new → new' ≡ padded 688 (addition k n s)
   unfolding addition
-  addition_is s s' m part new new' l e f g p q r =
+  addition_is s m part new new' l w z f g v p r =
       let front : List ℕ = front_bytes (10 + length s) 1 k ++ number_bytes n in
-      let twelve : length (take 12 m) ≡ 12 = length-take-le 12 m (omega arith) in
-      let d : drop 676 (drop 12 m) ≡ [] = drop_of_length-le (drop 12 m) {i = 676} (omega (arith, length-drop 12 m)) in
-      let t : drop 12 (take 12 m ++ (part ++ drop 676 (drop 12 m))) ≡ part ++ drop 676 (drop 12 m) = drop_at (take 12 m) (part ++ drop 676 (drop 12 m)) 12 twelve in
-      let b : drop 12 new ≡ padded 676 s = ap (drop 12) p ∙ t ∙ rw (d, append-nil part, q, f) refl in
+      let b : drop 12 new ≡ padded 676 s = ap (drop 12) p ∙ over_zeros s m part w z f v in
       let w : new' ≡ front ++ padded 676 s = r ∙ rw (b, g) refl in
       w ∙ behind front s 688 676 (omega (arith, front_length (10 + length s) 1 k n)) ∙ ap (padded 688) (append_assoc (front_bytes (10 + length s) 1 k) (number_bytes n) s)
 
@@ -81,9 +78,8 @@ zeros_long m z = ap length z
 
 -- the whole of an addition: the strip copied over zeros from the room where it stands, then what stands before it
 pub addition_written : (k number n start size : ℕ) (rooms m part new : List ℕ) → start ≡ 676 * (n % 64) → start + 676 ≤ length rooms
-    → size ≡ length (strip_in (take (start + 676 - start) (drop start rooms))) → size ≤ 676 → m ≡ replicate 688 0
-    → let s = take (start + size - start) (drop start rooms) in part ≡ take (length s) s ++ drop (length s) (take (688 - 12) (drop 12 m))
-    → new ≡ (front_bytes (10 + size) 1 k ++ number_bytes number) ++ drop 12 (put_mid 12 (688 - 12) m part)
+    → size ≡ length (strip_in (take (start + 676 - start) (drop start rooms))) → size ≤ 676 → m ≡ replicate 688 0 → part ≡ take (start + size - start) (drop start rooms)
+    → new ≡ (front_bytes (10 + size) 1 k ++ number_bytes number) ++ drop 12 (put_mid 12 (12 + size - 12) m part)
     → new ≡ padded 688 (addition k number (strip_in (room_at rooms n)))
 addition_written k number n start size rooms m part new e g s t z p q =
     let room : take (start + 676 - start) (drop start rooms) ≡ room_at rooms n = room_read rooms n start e (start + 676 - start) refl in
@@ -92,5 +88,4 @@ addition_written k number n start size rooms m part new e g s t z p q =
     let cut : start + size - start ≡ size = omega arith in
     let front : take size (room_at rooms n) ≡ take size (drop start rooms) = ap (take size) (sym room) ∙ take-take size (start + 676 - start) (drop start rooms) (omega arith) in
     let strip : take (start + size - start) (drop start rooms) ≡ strip_in (room_at rooms n) = rw cut (sym front ∙ strip_read (room_at rooms n) long size counted) in
-    let zeros : take 676 (drop 12 m) ≡ replicate (length {A = ℕ} (replicate 676 0)) 0 = rw z refl in
-    addition_is k number (strip_in (room_at rooms n)) (take (start + size - start) (drop start rooms)) m part (put_mid 12 676 m part) new size (zeros_long m z) strip counted refl (padded_is (take (start + size - start) (drop start rooms)) (replicate 676 0) (take 676 (drop 12 m)) part zeros p) q
+    addition_is k number (strip_in (room_at rooms n)) m part (put_mid 12 (12 + size - 12) m part) new size (12 + size - 12) z (p ∙ strip) counted (omega arith) refl q

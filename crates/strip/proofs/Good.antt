@@ -1,19 +1,16 @@
 -- What a strip that passed the check is, for the proofs of calls that use its records. Assumes nothing.
 use Prim.Native.Nat.{ℕ, zero, suc, ◌+◌, ◌*◌, ◌≤◌, ◌<◌}
-use mathlib.Core.Path.{◌≡◌, refl, sym, ap, ◌∙◌}
+use mathlib.Core.Path.{◌≡◌, refl, sym, ◌∙◌}
 use mathlib.Core.List.{List, [], ◌∷◌}
-use mathlib.Core.Bool.{Bool, true, false, not, ◌&&◌, ◌||◌}
+use mathlib.Core.Bool.{Bool, true, false, not, ◌||◌}
 use native.Mathlib.Omega.{arith}
 use lib.ListN.{length, get_or, take, drop, length-drop}
 use lib.Seq.{get_or-drop, drop-drop}
 use lib.Dec.{eqb}
 use borrow.Author.Tests.{lt-ltb, le-ltb, ltb-false, eqb-true, not-false}
-use Rattle.refusal.specs.Answer.{Answer, done, refused, first, above, outcome, passes}
-use Rattle.refusal.specs.declared.Refusal.{Refusal}
+use Rattle.refusal.specs.Answer.{first, above, passes}
 use Rattle.refusal.specs.declared.Check.TheVariants.{Passed}
-use Rattle.refusal.specs.declared.Outcome.{Outcome}
-use Rattle.refusal.specs.declared.Outcome.TheVariants.{Done, Refused}
-use Rattle.refusal.proofs.First.{clash, neither, both_true, passes_first, call_passes, found, front_failed, front_passed}
+use Rattle.refusal.proofs.First.{clash, neither, both_true, passes_first, found}
 use Rattle.strip.specs.Strip.{version, key_size, record_bytes, same_form, bad_framing, spent, unknown_version, wrong_record_bytes, bad_third, bad_record, check_list, block_checks, own_checks, whole_record, record_part}
 
 pub record Fit (s : List ℕ) (size : ℕ) : Type 0 where

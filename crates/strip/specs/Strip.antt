@@ -1,5 +1,5 @@
 -- What a strip is, on its list of bytes; when each refusal applies to it; which part of it is a record; and what is left of it when it has served.
-use Rattle.std.specs.Prelude.{ℕ, ◌+◌, ◌-◌, ◌*◌, List, [], ◌∷◌, ◌++◌, Bool, true, false, not, cond, ◌&&◌, ◌||◌, length, get_or, take, drop, set, replicate, eqb, ltb}
+use Rattle.std.specs.Prelude.{ℕ, ◌+◌, ◌-◌, ◌*◌, List, [], ◌∷◌, ◌++◌, Bool, false, not, cond, ◌&&◌, ◌||◌, length, get_or, take, drop, set, replicate, eqb, ltb}
 use Rattle.refusal.specs.Answer.{Answer, done, refused, first, above, is_not, none_of}
 
 -- rule 3.2: how many bytes follow the length field, the version, the key size, and the number of record bytes

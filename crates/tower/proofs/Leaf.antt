@@ -6,7 +6,7 @@ use Prim.Native.Nat.{ℕ, zero, suc, ◌+◌, ◌-◌, ◌*◌, ◌/◌, ◌%◌
 use native.Mathlib.Nat.{mod-lt, mod-eq_of_lt, mod-mod, zero-lt-suc, zero-mul, one-mul}
 use native.Mathlib.Numerals.{add-one}
 use native.Mathlib.Omega.{arith}
-use lib.Bits.{bit_xor, bit_and, bit_or, and_mask, or_shifted, and_zero_r, xor_lt}
+use lib.Bits.{bit_xor, bit_and, bit_or, and_mask, or_shifted, and_zero_r}
 use lib.ListN.{get_or, length, drop, length-drop, drop_of_length-le}
 use lib.Seq.{drop-cons}
 use lib.Pow.{mod-mod-pow}
@@ -15,7 +15,7 @@ use Rattle.fips197.specs.Field.{◌⊕◌, field}
 use Rattle.fips197.proofs.Below.{eq1, eq2}
 use Rattle.fips197.proofs.Xor.{assoc, zero_r, lt}
 use Rattle.refusal.specs.Answer.{Answer, done, refused, first}
-use Rattle.tower.specs.Tower.{tower, hi, lo, join, scaled_square, exchange, norm_over, product_over, inverse_over, bit_product, pair_product, nibble_product, added}
+use Rattle.tower.specs.Tower.{tower, hi, lo, join, scaled_square, norm_over, product_over, inverse_over, bit_product, pair_product, nibble_product, added}
 use Rattle.tower.specs.Claims.{FieldLaws}
 use Rattle.tower.proofs.Split.{lo_lt, lo_small}
 

@@ -1,11 +1,8 @@
 -- `aes::add_key` meets its contract: the loop's invariant: the bytes passed are sums, the rest as they were. Assumes nothing.
-use Prim.Native.Nat.{◌≤◌, ◌-◌}
-use mathlib.Core.Path.{◌≡◌}
 use native.Mathlib.Omega.{arith}
-use lib.ListN.{length, length-set}
-use Rattle.fips197.specs.Cipher.{◌⊞◌}
+use lib.ListN.{length-set}
 use Rattle.fips197.proofs.State.{length_plus}
-use Rattle.aes.proofs.Front.{front, front_none, front_step, front_done, sum_next}
+use Rattle.aes.proofs.Front.{front_none, front_step, front_done, sum_next}
 use Rattle.aes.proofs.add_key.Goals as goal
 
 pub loop-i-init : goal.loop-i-init

@@ -1,11 +1,9 @@
 -- `aes::add_key` meets its contract: the loop's invariant: the bytes passed are sums, the rest as they were.
 use Prim.Native.Nat.{◌≤◌, ◌-◌}
 use mathlib.Core.Path.{◌≡◌}
-use native.Mathlib.Omega.{arith}
-use lib.ListN.{length, length-set}
+use lib.ListN.{length}
 use Rattle.fips197.specs.Cipher.{◌⊞◌}
-use Rattle.fips197.proofs.State.{length_plus}
-use Rattle.aes.proofs.Front.{front, front_none, front_step, front_done, sum_next}
+use Rattle.aes.proofs.Front.{front}
 use Rattle.aes.proofs.add_key.Given as goal
 
 abbrev pub invariant-loop-i : goal.invariant-loop-i

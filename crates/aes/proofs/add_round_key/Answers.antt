@@ -1,7 +1,6 @@
 -- `aes::add_round_key` meets its contract: from the tests of the length and of the round. Assumes nothing.
 use mathlib.Core.Path.{refl}
 use Rattle.aes.proofs.Chosen.{no_state_law, no_key, key_added}
-use borrow.Author.Rules.{rules}
 use Rattle.aes.proofs.add_round_key.Goals as goal
 
 pub returns-then-part-ne16 : goal.returns-then-part-ne16

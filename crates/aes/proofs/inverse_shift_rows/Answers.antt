@@ -1,6 +1,5 @@
 -- `aes::inverse_shift_rows` meets its contract: from the test of the length, and the three rows in turn. Assumes nothing.
 use mathlib.Core.Path.{refl}
-use borrow.Author.Rules.{rules}
 use Rattle.aes.proofs.Rows.{rows_shifted_back}
 use Rattle.refusal.proofs.Part.{on_length_law, off_length}
 use Rattle.aes.proofs.inverse_shift_rows.Goals as goal

@@ -1,6 +1,5 @@
 -- `aes::shift_rows` meets its contract: from the test of the length, and the three rows in turn. Assumes nothing.
 use mathlib.Core.Path.{refl}
-use borrow.Author.Rules.{rules}
 use Rattle.aes.proofs.Rows.{rows_shifted}
 use Rattle.refusal.proofs.Part.{on_length_law, off_length}
 use Rattle.aes.proofs.shift_rows.Goals as goal

@@ -1,8 +1,5 @@
 -- `aes::turn_row` meets its contract: its four stores are what the contract says. Assumes nothing.
 use mathlib.Core.Path.{refl}
-use lib.ListN.{length-set}
-use native.Mathlib.Omega.{arith}
-use borrow.Author.Rules.{rules}
 use Rattle.aes.specs.Inner.{row_from}
 use Rattle.aes.proofs.turn_row.Goals as goal
 

@@ -1,5 +1,4 @@
 -- `bare_sbox::substitute` meets its contract: from the tower's inverse being the standard's. Assumes nothing.
-use borrow.Author.Rules.{rules}
 use Rattle.fips197.specs.Cipher.{affine, sbox}
 use Rattle.fips197.specs.Field.{◌⊕◌}
 use Rattle.bare_sbox.proofs.Claims.{inverse_is_field}

@@ -1,7 +1,5 @@
 -- `block_checks::check` meets its contract: from the answers of the checks, in their order. Assumes nothing.
-use borrow.Author.Rules.{rules}
 use Rattle.refusal.proofs.First.{first_stop, first_on}
-use Rattle.block_checks.proofs.Admitted.{keys_there, rounds_there, size_fits}
 use Rattle.block_checks.proofs.check.Goals as goal
 
 pub returns-in_default : goal.returns-in_default

@@ -1,6 +1,5 @@
 -- `cells::add` meets its contract: by its definition. Assumes nothing.
 use mathlib.Core.Path.{refl}
-use borrow.Author.Rules.{rules}
 use Rattle.fips197.specs.Field.{◌⊕◌}
 use Rattle.cells.proofs.add.Goals as goal
 

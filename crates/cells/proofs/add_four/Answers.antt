@@ -1,5 +1,4 @@
 -- `cells::add_four` meets its contract: its sums in order. Assumes nothing.
-use borrow.Author.Rules.{rules}
 use Rattle.cells.proofs.Made.{four_summed}
 use Rattle.cells.proofs.add_four.Goals as goal
 

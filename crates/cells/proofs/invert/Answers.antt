@@ -1,6 +1,5 @@
 -- `cells::invert` meets its contract: the mask in cell 0 and zeros are the cells before the first part. Assumes nothing.
 use mathlib.Core.Path.{refl}
-use borrow.Author.Rules.{rules}
 use Rattle.cells.specs.Cells.{cells_after}
 use Rattle.cells.proofs.invert.Goals as goal
 

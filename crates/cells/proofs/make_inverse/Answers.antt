@@ -1,7 +1,6 @@
 -- `cells::make_inverse` meets its contract: each value that it puts is its point. Assumes nothing.
 use mathlib.Core.Path.{refl, ap, ap₂, ◌∙◌}
 use mathlib.Core.List.{[], ◌∷◌}
-use borrow.Author.Rules.{rules}
 use Rattle.tower.specs.Tower.{hi, lo, join, nibble_product}
 use Rattle.points.specs.Points.{masked, record_points}
 use Rattle.cells.specs.Cells.{at, laid, summed, cells_after}

@@ -3,7 +3,6 @@ use mathlib.Core.Path.{ap, ap₂, ◌∙◌}
 use mathlib.Core.List.{List, [], ◌∷◌}
 use Prim.Native.Nat.{ℕ}
 use lib.ListN.{get_or}
-use borrow.Author.Rules.{rules}
 use Rattle.fips197.specs.Field.{◌⊕◌}
 use Rattle.tower.specs.Tower.{hi, lo, scaled_square, exchange, pair_product, nibble_product}
 use Rattle.points.specs.Points.{masked, record_points}

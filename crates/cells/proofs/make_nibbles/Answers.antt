@@ -1,7 +1,6 @@
 -- `cells::make_nibbles` meets its contract: each value that it puts is its point. Assumes nothing.
 use mathlib.Core.Path.{refl, ap, ap₂, ◌∙◌}
 use mathlib.Core.List.{[], ◌∷◌}
-use borrow.Author.Rules.{rules}
 use Rattle.fips197.specs.Field.{◌⊕◌}
 use Rattle.tower.specs.Tower.{scaled_square, nibble_product}
 use Rattle.points.specs.Points.{masked, record_points}

@@ -1,11 +1,7 @@
 -- `cells::write_points` meets its contract: the first i points are put, each from its cell. Assumes nothing.
-use mathlib.Core.Path.{◌≡◌}
-use mathlib.Core.List.{List}
-use Prim.Native.Nat.{ℕ, ◌≤◌, ◌-◌}
 use native.Mathlib.Omega.{arith}
-use lib.ListN.{length}
 use borrow.Author.Rules.{rules}
-use Rattle.cells.proofs.Recorded.{cell_fits, recorded_next, recorded_all}
+use Rattle.cells.proofs.Recorded.{cell_fits, recorded_next}
 use Rattle.cells.specs.Cells.{recorded}
 use Rattle.cells.proofs.write_points.Goals as goal
 

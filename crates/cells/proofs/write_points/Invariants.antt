@@ -2,10 +2,7 @@
 use mathlib.Core.Path.{◌≡◌}
 use mathlib.Core.List.{List}
 use Prim.Native.Nat.{ℕ, ◌≤◌, ◌-◌}
-use native.Mathlib.Omega.{arith}
 use lib.ListN.{length}
-use borrow.Author.Rules.{rules}
-use Rattle.cells.proofs.Recorded.{cell_fits, recorded_next, recorded_all}
 use Rattle.cells.specs.Cells.{recorded}
 use Rattle.cells.proofs.write_points.Given as goal
 

@@ -1,6 +1,5 @@
 -- `columns::inverse_mix_column` meets its contract: from the four bytes stored and the doublings that they share. Assumes nothing.
 use native.Mathlib.Omega.{arith}
-use borrow.Author.Rules.{rules}
 use lib.ListN.{get_or}
 use Rattle.columns.proofs.Bytes.{inverse_bytes}
 use Rattle.columns.proofs.Columns.{column_stored}

@@ -1,6 +1,5 @@
 -- `columns::inverse_mix_columns` meets its contract: from the test of the length. Assumes nothing.
 use mathlib.Core.Path.{refl, ◌∙◌}
-use borrow.Author.Rules.{rules}
 use Rattle.columns.proofs.Columns.{inverse_mixed}
 use Rattle.refusal.proofs.Part.{on_length_law, off_length}
 use Rattle.columns.proofs.inverse_mix_columns.Goals as goal

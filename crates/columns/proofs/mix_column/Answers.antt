@@ -1,6 +1,5 @@
 -- `columns::mix_column` meets its contract: from the four bytes stored. Assumes nothing.
 use native.Mathlib.Omega.{arith}
-use borrow.Author.Rules.{rules}
 use Rattle.columns.proofs.Columns.{column_stored}
 use Rattle.columns.proofs.mix_column.Goals as goal
 

@@ -1,5 +1,4 @@
 -- `columns::mix_column_by` meets its contract: from the test of the direction. Assumes nothing.
-use borrow.Author.Rules.{rules}
 use Rattle.columns.proofs.Columns.{column_back, column_forth}
 use Rattle.columns.proofs.mix_column_by.Goals as goal
 

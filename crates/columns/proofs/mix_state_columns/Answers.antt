@@ -1,6 +1,5 @@
 -- `columns::mix_state_columns` meets its contract: from the four columns one after the other. Assumes nothing.
 use native.Mathlib.Omega.{arith}
-use borrow.Author.Rules.{rules}
 use Rattle.columns.proofs.Columns.{columns_stored}
 use Rattle.columns.proofs.mix_state_columns.Goals as goal
 

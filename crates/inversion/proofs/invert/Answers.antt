@@ -1,5 +1,4 @@
 -- `inversion::invert` meets its contract: from the check's answer and the inner computation. Assumes nothing.
-use borrow.Author.Rules.{rules}
 use Rattle.refusal.proofs.First.{first_stop, first_on, first_done}
 use Rattle.inversion.proofs.Answered.{answer}
 use Rattle.inversion.proofs.invert.Goals as goal

@@ -1,5 +1,4 @@
 -- `inversion::invert_points` meets its contract: from the answers of the two checks and the inner computation. Assumes nothing.
-use borrow.Author.Rules.{rules}
 use Rattle.refusal.proofs.First.{first_stop, first_on, first_done, passed_is}
 use Rattle.refusal.proofs.Part.{of_length}
 use Rattle.inversion.proofs.Answered.{answer_and_points}

@@ -1,5 +1,4 @@
 -- `pool_message::acknowledgement_bytes` meets its contract: from the first bytes of a message, which are all of it. Assumes nothing.
-use borrow.Author.Rules.{rules}
 use Rattle.pool_message.specs.Message.{acknowledgement}
 use Rattle.pool_message.proofs.acknowledgement_bytes.Goals as goal
 

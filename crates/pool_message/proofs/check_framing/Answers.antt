@@ -1,6 +1,5 @@
 -- `pool_message::check_framing` meets its contract: from the framing of strips and the version. Assumes nothing.
 use native.Mathlib.Omega.{arith}
-use borrow.Author.Rules.{rules}
 use Rattle.pool_message.proofs.Laws.{long, unframed, versioned}
 use Rattle.pool_message.proofs.check_framing.Goals as goal
 

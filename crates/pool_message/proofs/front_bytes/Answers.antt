@@ -1,6 +1,5 @@
 -- `pool_message::front_bytes` meets its contract: from the bytes of the sequence number. Assumes nothing.
 use mathlib.Core.Path.{refl}
-use borrow.Author.Rules.{rules}
 use Rattle.pool_numbers.specs.Numbers.{number_bytes}
 use Rattle.pool_message.specs.Message.{front_bytes}
 use Rattle.pool_message.proofs.front_bytes.Goals as goal

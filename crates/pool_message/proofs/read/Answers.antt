@@ -1,6 +1,5 @@
 -- `pool_message::read` meets its contract: from the framing, then kind and size. Assumes nothing.
 use native.Mathlib.Omega.{arith}
-use borrow.Author.Rules.{rules}
 use Rattle.pool_message.proofs.Laws.{framed, unread, adds, adds_short, takes, takes_sized, acknowledges, acknowledges_sized, no_kind}
 use Rattle.pool_message.proofs.read.Goals as goal
 

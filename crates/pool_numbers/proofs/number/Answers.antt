@@ -1,6 +1,5 @@
 -- `pool_numbers::number` meets its contract: from the four bytes widened. Assumes nothing.
 use native.Mathlib.Omega.{arith}
-use borrow.Author.Rules.{rules}
 use Rattle.pool_numbers.specs.Numbers.{number_at}
 use Rattle.pool_numbers.proofs.number.Goals as goal
 

@@ -1,7 +1,6 @@
 -- `pool_numbers::number_at` meets its contract: from the four bytes read. Assumes nothing.
 use Rattle.pool_numbers.specs.Numbers.{number_at}
 use mathlib.Core.Path.{refl, ◌∙◌}
-use borrow.Author.Rules.{rules}
 use Rattle.pool_numbers.proofs.number_at.Goals as goal
 
 pub returns : goal.returns

@@ -1,6 +1,5 @@
 -- `pool_numbers::number_bytes` meets its contract: by computing. Assumes nothing.
 use mathlib.Core.Path.{refl}
-use borrow.Author.Rules.{rules}
 use Rattle.pool_numbers.specs.Numbers.{number_bytes}
 use Rattle.pool_numbers.proofs.number_bytes.Goals as goal
 

@@ -3,7 +3,6 @@ use mathlib.Core.Path.{refl}
 use native.Mathlib.Omega.{arith}
 use Rattle.refusal.proofs.Part.{on_length_law, off_length}
 use Rattle.pool_rooms.proofs.Places.{room_cleared}
-use borrow.Author.Rules.{rules}
 use Rattle.pool_rooms.proofs.clear.Goals as goal
 
 pub returns-then-rooms-eq43264 : goal.returns-then-rooms-eq43264

@@ -3,7 +3,6 @@ use mathlib.Core.Path.{refl}
 use native.Mathlib.Omega.{arith}
 use Rattle.refusal.proofs.Part.{on_length_law, off_length}
 use Rattle.pool_rooms.proofs.Places.{put_in, too_long, room_filled}
-use borrow.Author.Rules.{rules}
 use Rattle.pool_rooms.proofs.put.Goals as goal
 
 pub returns-then-rooms-ne43264 : goal.returns-then-rooms-ne43264

@@ -1,5 +1,4 @@
 -- `pool_state::check` meets its contract: from the length and the counts. Assumes nothing.
-use borrow.Author.Rules.{rules}
 use Rattle.pool_state.proofs.Laws.{not_nine, nine}
 use Rattle.pool_state.proofs.check.Goals as goal
 

@@ -1,6 +1,5 @@
 -- `pool_state::check_counts` meets its contract: from one condition after the other. Assumes nothing.
 use native.Mathlib.Omega.{arith}
-use borrow.Author.Rules.{rules}
 use Rattle.refusal.proofs.First.{either_first, either_second}
 use Rattle.pool_state.proofs.Laws.{no_role, overtaken, overfull, rest_decides}
 use Rattle.pool_state.proofs.check_counts.Goals as goal

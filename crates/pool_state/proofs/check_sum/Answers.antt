@@ -1,7 +1,6 @@
 -- `pool_state::check_sum` meets its contract: by the role and the sum. Assumes nothing.
 use Rattle.pool_state.proofs.Laws.{sum_alone, sum_high, sum_low}
 use native.Mathlib.Omega.{arith}
-use borrow.Author.Rules.{rules}
 use Rattle.pool_state.proofs.check_sum.Goals as goal
 
 pub returns-then-master-eq4 : goal.returns-then-master-eq4

@@ -1,7 +1,6 @@
 -- `pool_state::left_rooms` meets its contract: by the role. Assumes nothing.
 use mathlib.Core.Path.{refl}
 use native.Mathlib.Omega.{arith}
-use borrow.Author.Rules.{rules}
 use Rattle.pool_state.proofs.Laws.{gone_other, gone_taking}
 use Rattle.pool_state.proofs.left_rooms.Goals as goal
 

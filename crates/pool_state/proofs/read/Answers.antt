@@ -1,6 +1,5 @@
 -- `pool_state::read` meets its contract: from the bytes read. Assumes nothing.
 use mathlib.Core.Path.{refl}
-use borrow.Author.Rules.{rules}
 use Rattle.pool_state.specs.State.{state_in}
 use Rattle.pool_state.proofs.read.Goals as goal
 

@@ -1,6 +1,5 @@
 -- `pool_state::state_bytes` meets its contract: from the bytes of both numbers. Assumes nothing.
 use mathlib.Core.Path.{refl}
-use borrow.Author.Rules.{rules}
 use Rattle.pool_numbers.specs.Numbers.{number_bytes}
 use Rattle.pool_state.specs.State.{state_bytes}
 use Rattle.pool_state.proofs.state_bytes.Goals as goal

@@ -1,6 +1,5 @@
 -- `strip::check_framing` meets its contract: from the size and the field of the two bytes. Assumes nothing.
 use native.Mathlib.Omega.{arith}
-use borrow.Author.Rules.{rules}
 use Rattle.strip.proofs.Laws.{framing_short, framing_field}
 use Rattle.strip.proofs.check_framing.Goals as goal
 

@@ -1,5 +1,4 @@
 -- `strip::check_unspent` meets its contract: from the version and the one comparison. Assumes nothing.
-use borrow.Author.Rules.{rules}
 use Rattle.strip.proofs.Laws.{is_spent, is_unspent}
 use Rattle.strip.proofs.check_unspent.Goals as goal
 

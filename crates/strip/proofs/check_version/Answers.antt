@@ -1,5 +1,4 @@
 -- `strip::check_version` meets its contract: from the version and the two comparisons. Assumes nothing.
-use borrow.Author.Rules.{rules}
 use Rattle.strip.proofs.Laws.{version_0, version_1, version_other}
 use Rattle.strip.proofs.check_version.Goals as goal
 

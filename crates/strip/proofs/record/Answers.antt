@@ -1,5 +1,4 @@
 -- `strip::record` meets its contract: from the answers of the three checks and the test of the index. Assumes nothing.
-use borrow.Author.Rules.{rules}
 use Rattle.refusal.proofs.First.{first_stop, first_on, first_done}
 use Rattle.strip.proofs.Laws.{framed, record_past, record_there}
 use Rattle.strip.proofs.record.Goals as goal

@@ -1,8 +1,6 @@
 -- `strip::wipe` meets its contract: from its store of the version and the zeroed part, in each of three sizes. Assumes nothing.
 use native.Mathlib.Omega.{arith}
-use lib.ListN.{length-set}
-use borrow.Author.Rules.{rules}
-use Rattle.strip.proofs.Laws.{wiped_none, wiped_version, wiped_same, wiped_all}
+use Rattle.strip.proofs.Laws.{wiped_none, wiped_version, wiped_all}
 use Rattle.strip.proofs.wipe.Goals as goal
 
 pub returns-then-size-lt3 : goal.returns-then-size-lt3

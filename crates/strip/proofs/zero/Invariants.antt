@@ -2,10 +2,7 @@
 use mathlib.Core.Path.{◌≡◌}
 use mathlib.Core.List.{◌++◌}
 use Prim.Native.Nat.{◌≤◌, ◌-◌}
-use native.Mathlib.Omega.{arith}
-use lib.ListN.{length, length-set, replicate, drop}
-use borrow.Author.Fill.{fill_none, fill_more}
-use Rattle.strip.proofs.Laws.{zeroed}
+use lib.ListN.{length, replicate, drop}
 use Rattle.strip.proofs.zero.Given as goal
 
 abbrev pub invariant-loop-i : goal.invariant-loop-i

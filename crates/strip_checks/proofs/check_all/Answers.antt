@@ -1,6 +1,5 @@
 -- `strip_checks::check_all` meets its contract: from the answers of the six checks, one after the other. Assumes nothing.
 use mathlib.Core.Path.{refl}
-use borrow.Author.Rules.{rules}
 use Rattle.refusal.proofs.First.{first_stop, first_on, first_done}
 use Rattle.strip.proofs.Laws.{framed}
 use Rattle.strip_checks.proofs.check_all.Goals as goal

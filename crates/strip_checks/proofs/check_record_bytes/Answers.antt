@@ -1,5 +1,4 @@
 -- `strip_checks::check_record_bytes` meets its contract: from the version and the key size, for each form. Assumes nothing.
-use borrow.Author.Rules.{rules}
 use Rattle.strip_checks.proofs.Laws.{bytes_version, bytes_16, bytes_24, bytes_32, bytes_other}
 use Rattle.strip_checks.proofs.check_record_bytes.Goals as goal
 

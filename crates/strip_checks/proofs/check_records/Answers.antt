@@ -1,9 +1,5 @@
 -- `strip_checks::check_records` meets its contract: the loop's invariant: the records passed are not bad, so the rest decides. Assumes nothing.
-use mathlib.Core.Path.{◌≡◌, refl}
-use Prim.Native.Nat.{◌+◌, ◌*◌, ◌/◌, ◌≤◌, ◌-◌}
 use native.Mathlib.Omega.{arith}
-use lib.ListN.{drop, length}
-use Rattle.strip.specs.Strip.{bad_record, bad_third}
 use Rattle.strip_checks.proofs.Laws.{third_stop, third_on, third_all}
 use Rattle.strip_checks.proofs.check_records.Goals as goal
 

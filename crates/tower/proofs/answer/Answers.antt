@@ -1,5 +1,4 @@
 -- `tower::answer` meets its contract: from the check's answer. Assumes nothing.
-use borrow.Author.Rules.{rules}
 use Rattle.refusal.proofs.First.{first_stop, first_on, first_done}
 use Rattle.tower.proofs.answer.Goals as goal
 

@@ -1,5 +1,4 @@
 -- `tower::byte_product` meets its contract: from what the calls on its nibbles answer. Assumes nothing.
-use borrow.Author.Rules.{rules}
 use Rattle.fips197.specs.Field.{◌⊕◌}
 use Rattle.tower.proofs.Leaf.{product_made}
 use Rattle.tower.proofs.Level.{nibble_level}

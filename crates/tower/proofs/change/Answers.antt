@@ -1,12 +1,7 @@
 -- `tower::change` meets its contract: the loop's invariant: the columns passed, added, and what the rest add up to. Assumes nothing.
-use mathlib.Core.Path.{◌≡◌}
-use Prim.Native.Nat.{ℕ, ◌≤◌, ◌-◌}
 use native.Mathlib.Omega.{arith}
-use lib.ListN.{drop}
-use borrow.Author.Rules.{rules}
 use Rattle.fips197.specs.Field.{◌⊕◌}
 use Rattle.fips197.proofs.Xor.{zero_l}
-use Rattle.tower.specs.Tower.{added}
 use Rattle.tower.proofs.Leaf.{change_next, change_all}
 use Rattle.tower.proofs.change.Goals as goal
 

@@ -1,5 +1,4 @@
 -- `tower::from_tower` meets its contract: from the change of basis by these columns. Assumes nothing.
-use borrow.Author.Rules.{rules}
 use Rattle.tower.specs.Tower.{from_tower}
 use Rattle.tower.proofs.from_tower.Goals as goal
 

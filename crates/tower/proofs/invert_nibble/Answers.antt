@@ -1,5 +1,4 @@
 -- `tower::invert_nibble` meets its contract: from what the calls on its pairs answer. Assumes nothing.
-use borrow.Author.Rules.{rules}
 use Rattle.fips197.specs.Field.{◌⊕◌}
 use Rattle.tower.proofs.Leaf.{inverse_made}
 use Rattle.tower.proofs.Level.{pair_level}

@@ -1,5 +1,4 @@
 -- `tower::pair_inverse` meets its contract: from the check's answer and the exchange. Assumes nothing.
-use borrow.Author.Rules.{rules}
 use Rattle.tower.specs.Tower.{pair_inverse}
 use Rattle.tower.proofs.Leaf.{answered}
 use Rattle.tower.proofs.pair_inverse.Goals as goal

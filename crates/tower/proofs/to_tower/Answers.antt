@@ -1,5 +1,4 @@
 -- `tower::to_tower` meets its contract: from the change of basis by these columns. Assumes nothing.
-use borrow.Author.Rules.{rules}
 use Rattle.tower.specs.Tower.{to_tower}
 use Rattle.tower.proofs.to_tower.Goals as goal
 

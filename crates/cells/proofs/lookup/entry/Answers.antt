@@ -1,6 +1,5 @@
 -- `cells::lookup::entry` meets its contract: by its definition, and what is left by 16. Assumes nothing.
 use mathlib.Core.Path.{refl}
-use borrow.Author.Rules.{rules}
 use Rattle.cells.specs.Cells.{entry}
 use Rattle.cells.proofs.lookup.entry.Goals as goal
 

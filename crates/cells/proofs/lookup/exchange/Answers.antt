@@ -1,5 +1,4 @@
 -- `cells::lookup::exchange` meets its contract: from the computed test over four pairs. Assumes nothing.
-use borrow.Author.Rules.{rules}
 use Rattle.cells.proofs.Lookups.{exchange_made}
 use Rattle.cells.proofs.lookup.exchange.Goals as goal
 

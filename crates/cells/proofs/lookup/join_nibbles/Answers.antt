@@ -1,6 +1,5 @@
 -- `cells::lookup::join_nibbles` meets its contract: by its definition. Assumes nothing.
 use mathlib.Core.Path.{refl}
-use borrow.Author.Rules.{rules}
 use Rattle.tower.specs.Tower.{lo, join}
 use Rattle.cells.proofs.lookup.join_nibbles.Goals as goal
 

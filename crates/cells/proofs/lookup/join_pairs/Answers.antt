@@ -1,6 +1,5 @@
 -- `cells::lookup::join_pairs` meets its contract: by its definition. Assumes nothing.
 use mathlib.Core.Path.{refl}
-use borrow.Author.Rules.{rules}
 use Rattle.tower.specs.Tower.{lo, join}
 use Rattle.cells.proofs.lookup.join_pairs.Goals as goal
 

@@ -1,6 +1,5 @@
 -- `cells::lookup::nibble_square` meets its contract: from the computed test of its row. Assumes nothing.
 use mathlib.Core.Path.{◌∙◌}
-use borrow.Author.Rules.{rules}
 use Rattle.cells.proofs.Lookups.{nibble_square_made}
 use Rattle.cells.proofs.lookup.nibble_square.Goals as goal
 

@@ -1,5 +1,4 @@
 -- `cells::lookup::row` meets its contract: from the computed test of the product table of nibbles. Assumes nothing.
-use borrow.Author.Rules.{rules}
 use Rattle.fips197.specs.Field.{field}
 use Rattle.tower.specs.Tower.{tower}
 use Rattle.cells.specs.Cells.{entry}

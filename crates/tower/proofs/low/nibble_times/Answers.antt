@@ -1,5 +1,4 @@
 -- `tower::low::nibble_times` meets its contract: from the computed test of the nibble product. Assumes nothing.
-use borrow.Author.Rules.{rules}
 use Rattle.tower.proofs.Leaf.{nibble_made}
 use Rattle.tower.proofs.low.nibble_times.Goals as goal
 

@@ -1,0 +1,15 @@
+-- `pool_taking::take` meets its contract: from its check, then its step. Assumes nothing.
+use Rattle.pool_taking.specs.Taking.{take_of}
+use Rattle.refusal.proofs.First.{call_refused, call_passes, call_done}
+use Rattle.pool_taking.proofs.take.Goals as goal
+
+pub returns-in_default : goal.returns-in_default
+unfolding take_of
+returns-in_default c = call_refused _ (c.args.state.now, (c.args.rooms.now, (c.args.number.now, c.args.strip.now))) _ _ c.take-checked.ensures _ c.in_default.is
+
+pub take-requires : goal.take-requires
+take-requires c = call_passes _ _ c.take-checked.ensures c.in-Done.is
+
+pub returns : goal.returns
+unfolding take_of
+returns c = call_done _ (c.args.state.now, (c.args.rooms.now, (c.args.number.now, c.args.strip.now))) _ _ c.take-checked.ensures c.in-Done.is _ c.take.ensures
