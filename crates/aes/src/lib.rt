@@ -7,6 +7,8 @@ ghost use Rattle.aes.specs.Steps.{on_state, keyed};
 ghost use Rattle.aes.specs.Inner.{row_from};
 
 // A row is read round from the place that its first byte comes from. Places are no secret, so they may be computed.
+// It is a call of its own, so that a register goes from the data's last row to the mask's first, and never from a data byte to its mask byte.
+#[inline(never)]
 fn turn_row(part: &mut [u8], row: usize, from: usize)
     requires { (length part.old ≡ 16) × ((row < 4) × (from < 16)) }
     ensures { part.new ≡ row_from row from part.old }

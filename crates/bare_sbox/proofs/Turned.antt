@@ -10,10 +10,14 @@ use Rattle.fips197.proofs.Below.{eq1}
 abbrev turned : ℕ → ℕ → ℕ → ℕ
 turned p q x = bit_or (x * p % 256) (x / q)
 
-pub linear_made : (x : ℕ) → x < 256 → bit_xor (bit_xor (bit_xor (bit_xor x (turned 2 128 x)) (turned 4 64 x)) (turned 8 32 x)) (turned 16 16 x) ≡ linear x
-unfolding fips field
-linear_made = eq1 256 (λ x. bit_xor (bit_xor (bit_xor (bit_xor x (turned 2 128 x)) (turned 4 64 x)) (turned 8 32 x)) (turned 16 16 x)) linear tt
+-- the turns by one to four places, each sum turned on by one
+abbrev summed : ℕ → ℕ → ℕ
+summed x y = bit_xor x (turned 2 128 y)
 
-pub inverse_linear_made : (x : ℕ) → x < 256 → bit_xor (bit_xor (turned 2 128 x) (turned 8 32 x)) (turned 64 4 x) ≡ inv_linear x
+pub linear_made : (x : ℕ) → x < 256 → summed x (summed x (summed x (summed x x))) ≡ linear x
 unfolding fips field
-inverse_linear_made = eq1 256 (λ x. bit_xor (bit_xor (turned 2 128 x) (turned 8 32 x)) (turned 64 4 x)) inv_linear tt
+linear_made = eq1 256 (λ x. summed x (summed x (summed x (summed x x)))) linear tt
+
+pub inverse_linear_made : (x : ℕ) → x < 256 → turned 2 128 (bit_xor x (turned 4 64 (bit_xor x (turned 8 32 x)))) ≡ inv_linear x
+unfolding fips field
+inverse_linear_made = eq1 256 (λ x. turned 2 128 (bit_xor x (turned 4 64 (bit_xor x (turned 8 32 x))))) inv_linear tt

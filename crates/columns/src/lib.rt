@@ -21,6 +21,8 @@ fn mix_byte(a: u8, b: u8, c: u8, d: u8) -> u8
     double(a) ^ (double(b) ^ b) ^ c ^ d
 }
 
+// It is a call of its own, so that the compiler makes no vector of a state: a vector register would go from the data's columns to the mask's.
+#[inline(never)]
 fn mix_column(column: &mut [u8])
     requires { length column.old ≡ 4 }
     ensures { column.new ≡ column_of mix_byte column.old }
@@ -35,8 +37,9 @@ fn mix_column(column: &mut [u8])
     column[3] = mix_byte(d, a, b, c);
 }
 
-// 5.3.3 a column of 0e a + 0b b + 0d c + 09 d: what has a term x^3 is doubled three times, x^2 twice, x once. The bytes share their doublings, by
-// which they differ in form, so that the compiler makes no vector of a state: a vector register would go from the data's columns to the mask's.
+// 5.3.3 a column of 0e a + 0b b + 0d c + 09 d: what has a term x^3 is doubled three times, x^2 twice, x once. The bytes share their doublings, and it is
+// a call of its own, so that the compiler makes no vector of a state: a vector register would go from the data's columns to the mask's.
+#[inline(never)]
 fn inverse_mix_column(column: &mut [u8])
     requires { length column.old ≡ 4 }
     ensures { column.new ≡ column_of inv_mix_byte column.old }

@@ -26,5 +26,5 @@ product (n ∷ ns) = n * product ns
 
 -- how often v comes up where zero and each other value below a bound do so many times, and no value does that is not below it
 abbrev pub share : ℕ → ℕ → ℕ → ℕ → ℕ
-share values zeros others zero = zeros
-share values zeros others (suc v) = cond (ltb (suc v) values) others 0
+share values nought others zero = nought
+share values nought others (suc v) = cond (ltb (suc v) values) others 0

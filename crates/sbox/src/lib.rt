@@ -16,6 +16,7 @@ pub enum Direction {
 }
 
 // One part on its way to the inversion, with the constant that is its own: 05 for the data, none for the mask.
+#[inline(always)]
 fn enter(direction: Direction, x: u8, constant: u8) -> u8
     ensures { result ≡ enter direction constant x }
 {
@@ -26,6 +27,7 @@ fn enter(direction: Direction, x: u8, constant: u8) -> u8
 }
 
 // One part on its way back, with the constant that is its own: 63 for the data, none for the mask.
+#[inline(always)]
 fn leave(direction: Direction, x: u8, constant: u8) -> u8
     ensures { result ≡ leave direction constant x }
 {
@@ -37,7 +39,8 @@ fn leave(direction: Direction, x: u8, constant: u8) -> u8
 
 // The S-box on a masked byte: data and mask go in and come back each on its own way, and meet in the inversion alone.
 // The mask's way back depends on the record alone, so it is taken apart from the data's, and before it: between mask and data every register holds the record's S.
-// The record is checked first, so that the compiler leaves the three ways in this order.
+// The record is checked first, so that the compiler leaves the three ways in this order; and it is a call of its own, to which data and mask come in two registers.
+#[inline(never)]
 pub fn substitute(direction: Direction, data: u8, mask: u8, record: Record) -> Masked
     ensures { byte_and_mask result ≡ substituted direction «data» mask «record» }
 {
@@ -56,6 +59,7 @@ pub fn substitute(direction: Direction, data: u8, mask: u8, record: Record) -> M
 }
 
 // The same, the inversion's 62 points left in the lent buffer.
+#[inline(never)]
 pub fn substitute_points(
     direction: Direction,
     data: u8,

@@ -39,7 +39,9 @@ fn column_at(column: u8, bit: u8) -> u8
     column & (bit * 255)
 }
 
-// A change of basis of one part alone: the column bytes of its set bits added, bit 7's first.
+// A change of basis of one part alone: the column bytes of its set bits added, bit 7's first. It is a call of its own, so that each part goes through
+// the same registers, and the record's S, which is changed between the mask and the data, leaves none of the mask in them.
+#[inline(never)]
 fn change(columns: &[u8; 8], x: u8) -> u8
     requires { length columns.now ≡ 8 }
     ensures { result ≡ added columns.now x }

@@ -1,6 +1,5 @@
 -- `cipher::serve` meets its contract: from the answers of the check, the work and the wipe. Assumes nothing.
 use native.Mathlib.Omega.{arith}
-use borrow.Author.Rules.{rules}
 use Rattle.cipher.proofs.Promise.{block_refused, work_may, block_done}
 use Rattle.cipher.proofs.serve.Goals as goal
 

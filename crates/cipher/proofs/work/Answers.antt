@@ -1,6 +1,5 @@
 -- `cipher::work` meets its contract: from the rounds of each direction. Assumes nothing.
 use Rattle.cipher.proofs.Promise.{worked_encrypt, worked_decrypt}
-use borrow.Author.Rules.{rules}
 use Rattle.cipher.proofs.work.Goals as goal
 
 pub returns-in-Encrypt : goal.returns-in-Encrypt

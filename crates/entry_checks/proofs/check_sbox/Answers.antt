@@ -1,7 +1,6 @@
 -- `entry_checks::check_sbox` meets its contract: from the answers of the two checks. Assumes nothing.
 use Rattle.refusal.proofs.First.{first_stop, first_on, first_done}
 use Rattle.entry_checks.specs.Checks.{sbox_checks}
-use borrow.Author.Rules.{rules}
 use Rattle.entry_checks.proofs.check_sbox.Goals as goal
 
 pub returns-in_default : goal.returns-in_default

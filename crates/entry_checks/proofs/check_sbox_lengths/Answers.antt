@@ -1,5 +1,4 @@
 -- `entry_checks::check_sbox_lengths` meets its contract: from the answers of the three checks. Assumes nothing.
-use borrow.Author.Rules.{rules}
 use Rattle.refusal.proofs.First.{either_first, either_second}
 use Rattle.entry_checks.specs.Checks.{wrong_sbox_lengths}
 use Rattle.entry_checks.proofs.check_sbox_lengths.Goals as goal

@@ -1,6 +1,5 @@
 -- `masked_work::decrypt_round` meets its contract: from the promises of its steps. Assumes nothing.
 use Rattle.masked_work.proofs.Rounds.{inv_round_done}
-use borrow.Author.Rules.{rules}
 use Rattle.masked_work.proofs.decrypt_round.Goals as goal
 
 pub returns : goal.returns

@@ -1,10 +1,7 @@
 -- `masked_work::decrypt_rounds` meets its contract: the loop's invariant: so many rounds are worked.
-use native.Mathlib.Omega.{arith}
 use Prim.Native.Nat.{◌-◌}
-use mathlib.Core.Path.{refl}
-use borrow.Author.Rules.{rules}
 use Rattle.masked_rounds.specs.Rounds.{inv_worked}
-use Rattle.masked_work.proofs.Rounds.{Past, inv_worked_none, inv_worked_more, inv_rounds_done}
+use Rattle.masked_work.proofs.Rounds.{Past}
 use Rattle.masked_work.proofs.decrypt_rounds.Given as goal
 
 abbrev pub invariant-loop-done : goal.invariant-loop-done

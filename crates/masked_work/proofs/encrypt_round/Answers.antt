@@ -1,6 +1,5 @@
 -- `masked_work::encrypt_round` meets its contract: from the promises of its steps. Assumes nothing.
 use Rattle.masked_work.proofs.Rounds.{round_done}
-use borrow.Author.Rules.{rules}
 use Rattle.masked_work.proofs.encrypt_round.Goals as goal
 
 pub returns : goal.returns

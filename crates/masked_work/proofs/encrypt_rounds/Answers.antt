@@ -1,10 +1,7 @@
 -- `masked_work::encrypt_rounds` meets its contract: the loop's invariant: so many rounds are worked. Assumes nothing.
 use native.Mathlib.Omega.{arith}
-use Prim.Native.Nat.{◌-◌}
 use mathlib.Core.Path.{refl}
-use borrow.Author.Rules.{rules}
-use Rattle.masked_rounds.specs.Rounds.{worked}
-use Rattle.masked_work.proofs.Rounds.{Past, worked_none, worked_more, rounds_done}
+use Rattle.masked_work.proofs.Rounds.{worked_none, worked_more, rounds_done}
 use Rattle.masked_work.proofs.encrypt_rounds.Goals as goal
 
 pub loop-round-init : goal.loop-round-init

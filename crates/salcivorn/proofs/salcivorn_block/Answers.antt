@@ -1,5 +1,4 @@
 -- `salcivorn::salcivorn_block` meets its contract: from the check of the direction and the answer below, numbered. Assumes nothing.
-use borrow.Author.Rules.{rules}
 use Rattle.salcivorn.proofs.Laws.{block_13, block_given}
 use Rattle.salcivorn.proofs.salcivorn_block.Goals as goal
 

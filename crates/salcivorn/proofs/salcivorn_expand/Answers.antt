@@ -1,5 +1,4 @@
 -- `salcivorn::salcivorn_expand` meets its contract: the answer below, numbered. Assumes nothing.
-use borrow.Author.Rules.{rules}
 use Rattle.refusal.proofs.First.{numbered_as}
 use Rattle.salcivorn.specs.Entries.{expand_of}
 use Rattle.salcivorn.proofs.salcivorn_expand.Goals as goal

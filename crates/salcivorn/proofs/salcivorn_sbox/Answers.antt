@@ -1,7 +1,6 @@
 -- `salcivorn::salcivorn_sbox` meets its contract: from the answers of the checks and of the S-box. Assumes nothing.
 use Rattle.entry_checks.proofs.Laws.{data_there, mask_there, record_three}
 use Rattle.salcivorn.proofs.Laws.{sbox_stopped, sbox_refused, sbox_done}
-use borrow.Author.Rules.{rules}
 use Rattle.salcivorn.proofs.salcivorn_sbox.Goals as goal
 
 pub returns-in_default : goal.returns-in_default

@@ -1,7 +1,6 @@
 -- `salcivorn::salcivorn_sbox_points` meets its contract: from the answers of the checks and of the S-box with points. Assumes nothing.
 use Rattle.entry_checks.proofs.Laws.{data_there, mask_there, record_three}
 use Rattle.salcivorn.proofs.Laws.{points_stopped, points_refused, points_done}
-use borrow.Author.Rules.{rules}
 use Rattle.salcivorn.proofs.salcivorn_sbox_points.Goals as goal
 
 pub returns-in_default : goal.returns-in_default
