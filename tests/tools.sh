@@ -23,8 +23,8 @@ need qemu-x86_64 qemu-user
 CC="$CC -std=c11 -Wall -Wextra -Werror -O2 -Iinclude -Ihost -Ibench"
 PLUGIN_CC="gcc -std=c11 -Wall -Wextra -Werror -O2 -Ibench -shared -fPIC"
 
-# The processor is named, so that the C library chooses the same functions everywhere.
-EMULATOR="qemu-x86_64 -cpu qemu64"
+# The processor is named, so that the C library chooses the same functions everywhere. The archive is made for x86-64-v2, so it is one of those.
+EMULATOR="qemu-x86_64 -cpu Nehalem"
 
 # emulated PLUGIN PROGRAM WORDS..: a program under one of the emulator's plugins, through the file that both map.
 emulated() {

@@ -24,7 +24,8 @@ pub fn check_direction(direction: u32) -> Check
 pub fn direction_of(direction: u32) -> Direction
     ensures { result ≡ way direction }
 {
-    if direction == 0 {
+    let encrypts = direction == 0;
+    if encrypts {
         Direction::Encrypt
     } else {
         Direction::Decrypt

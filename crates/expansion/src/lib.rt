@@ -25,7 +25,8 @@ fn temp(nk: usize, i: usize, a: [u8; 4]) -> [u8; 4]
     if i % nk == 0 {
         return words::sum(words::sub_word(words::rot_word(a)), round_constant(i / nk));
     }
-    if nk > 6 && i % nk == 4 {
+    let is_long = nk > 6;
+    if is_long && i % nk == 4 {
         return words::sub_word(a);
     }
     a

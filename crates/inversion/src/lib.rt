@@ -10,7 +10,7 @@ use refusal::{Check, Refusal};
 use tower::Record;
 
 // A masked byte and its mask, or a refusal.
-#[derive(Drop)]
+#[derive(Clone, Copy)]
 pub enum Masked {
     Byte(u8, u8),
     Refused(Refusal),

@@ -450,7 +450,7 @@ fn main(rt: HostRuntime) -> io::Result<()> {
     match File::open(&rt, path) {
         Ok(mut file) => run(&rt, &mut file),
         Err(error) => {
-            eprintln!(rt; "{path}: {error}")?;
+            let _ = eprintln!(rt; "{path}: {error}");
             report(&rt, 0, 1)
         }
     }

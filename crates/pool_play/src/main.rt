@@ -98,7 +98,7 @@ fn main(rt: HostRuntime) -> io::Result<()> {
     match File::open(&rt, path) {
         Ok(mut file) => run(&rt, &mut file),
         Err(error) => {
-            eprintln!(rt; "{path}: {error}")?;
+            let _ = eprintln!(rt; "{path}: {error}");
             report::text(&rt, "the script cannot be read\n")
         }
     }

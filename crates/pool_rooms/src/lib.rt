@@ -38,7 +38,8 @@ pub fn put(rooms: &mut [u8], n: u32, strip: &[u8])
 pub fn clear(rooms: &mut [u8], n: u32)
     ensures { rooms.new ≡ on_length rooms_size (λ l. cleared l n) rooms.old }
 {
-    if rooms.len() == 43264 {
+    let are_rooms = rooms.len() == 43264;
+    if are_rooms {
         let start = room_start(n);
         strip::zero(&mut rooms[start..start + 676]);
     }

@@ -6,7 +6,7 @@ ghost use Rattle.refusal.specs.Refusal.{number, failed};
 ghost use Rattle.refusal.specs.Answer.{refused, above, is_not, none_of, answer_number, outcome};
 ghost use Rattle.refusal.specs.declared.Refusal.TheVariants as kinds;
 
-#[derive(Drop)]
+#[derive(Clone, Copy)]
 pub enum Refusal {
     Operand(u8),
     Key(u8),
@@ -18,14 +18,14 @@ pub enum Refusal {
     Trace(u8),
 }
 
-#[derive(Drop)]
+#[derive(Clone, Copy)]
 pub enum Check {
     Passed,
     Failed,
 }
 
 // What a call answers that has no value of its own: what it makes stands in the parts it was lent.
-#[derive(Drop)]
+#[derive(Clone, Copy)]
 pub enum Outcome {
     Done,
     Refused(Refusal),

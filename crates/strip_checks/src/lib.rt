@@ -49,7 +49,8 @@ fn check_records(strip: &[u8]) -> Check
     let count = (strip.len() - 4) / 3;
     let mut index = 0;
     while index < count {
-        if 3 < strip[4 + 3 * index + 2] {
+        let is_bad = 3 < strip[4 + 3 * index + 2];
+        if is_bad {
             return Check::Failed;
         }
         index += 1;

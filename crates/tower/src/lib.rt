@@ -13,7 +13,7 @@ mod halves;
 mod low;
 
 // A pair or a nibble, or the refusal of an operand.
-#[derive(Drop)]
+#[derive(Clone, Copy)]
 pub enum Element {
     Value(u8),
     Refused(Refusal),

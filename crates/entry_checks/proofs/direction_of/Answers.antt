@@ -2,8 +2,8 @@
 use Rattle.entry_checks.proofs.Laws.{way_encrypt, way_decrypt}
 use Rattle.entry_checks.proofs.direction_of.Goals as goal
 
-pub returns-then-direction-eq0 : goal.returns-then-direction-eq0
-returns-then-direction-eq0 c = search way_encrypt
+pub returns-then-encrypts : goal.returns-then-encrypts
+returns-then-encrypts c = search way_encrypt
 
-pub returns-else-direction-eq0 : goal.returns-else-direction-eq0
-returns-else-direction-eq0 c = search way_decrypt
+pub returns-else-encrypts : goal.returns-else-encrypts
+returns-else-encrypts c = search way_decrypt

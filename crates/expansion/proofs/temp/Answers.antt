@@ -4,7 +4,7 @@ use native.Mathlib.Omega.{arith}
 use borrow.Author.Tests.{eq-eqb, ne_eqb}
 use Rattle.expansion.proofs.Words.{temp_turn, temp_again, temp_long, temp_short}
 use Rattle.expansion.proofs.temp.Goals as goal
-use Rattle.expansion.proofs.temp.Goals.{else-nk-gt6-via-then-nk-gt6+else-i-nk-eq4, else-nk-gt6-via-else-nk-gt6}
+use Rattle.expansion.proofs.temp.Goals.{else-is_long-via-then-is_long+else-i-nk-eq4, else-is_long-via-else-is_long}
 
 pub returns-then-i-nk-eq0 : goal.returns-then-i-nk-eq0
 returns-then-i-nk-eq0 c = temp_turn _ _ _ _ _ _ _ c.if-i-nk-eq0.true c.rot_word.ensures c.sub_word.ensures c.round_constant.ensures c.sum.ensures
@@ -14,7 +14,7 @@ returns-then-i-nk-eq4 c = temp_again _ _ _ _ c.if-i-nk-eq0.false (omega arith) (
 
 pub returns : goal.returns
 returns c =
-    elim c.else-nk-gt6.branch [
-      | else-nk-gt6-via-then-nk-gt6+else-i-nk-eq4 w ↦ temp_long _ _ _ _ c.if-i-nk-eq0.false w.if-nk-gt6.true (ne_eqb _ _ w.if-i-nk-eq4.false) refl
-      | else-nk-gt6-via-else-nk-gt6 w ↦ temp_short _ _ _ _ c.if-i-nk-eq0.false w.if-nk-gt6.false refl
+    elim c.else-is_long.branch [
+      | else-is_long-via-then-is_long+else-i-nk-eq4 w ↦ temp_long _ _ _ _ c.if-i-nk-eq0.false w.if-is_long.true (ne_eqb _ _ w.if-i-nk-eq4.false) refl
+      | else-is_long-via-else-is_long w ↦ temp_short _ _ _ _ c.if-i-nk-eq0.false w.if-is_long.false refl
     ]
