@@ -388,23 +388,6 @@ fn feed_all(r: Reader, bytes: &[u8]) -> Reader
     s
 }
 
-// Reads until the buffer is full, the file ends or a read fails, and answers how many bytes it put at the buffer's start.
-fn read_full(file: &mut impl Read, buffer: &mut [u8]) -> usize
-    ensures { result ≤ length buffer.new }
-{
-    let mut done = 0;
-    while done < buffer.len() {
-        let Ok(n) = file.read(&mut buffer[done..]) else {
-            return done;
-        };
-        if n == 0 {
-            return done;
-        }
-        done += n;
-    }
-    done
-}
-
 // The lines of a file, as far as it is read. At its end a read gives nothing, and the reads that are left change nothing.
 fn read_lines(file: &mut impl Read) -> Reader {
     let mut r = Reader {
@@ -416,17 +399,11 @@ fn read_lines(file: &mut impl Read) -> Reader {
     let mut chunk = [0u8; CHUNK];
     let mut reads = 0;
     while reads < READS {
-        let n = read_full(file, &mut chunk);
+        let n = reading::read_full(file, &mut chunk);
         r = feed_all(r, &chunk[..n]);
         reads += 1;
     }
     end_line(r)
-}
-
-// Whether nothing is left to be read. A folder, which opens and cannot be read, answers false, and so does a file that is too long.
-fn at_end(file: &mut impl Read) -> bool {
-    let mut byte = [0u8; 1];
-    matches!(file.read(&mut byte), Ok(0))
 }
 
 fn report(rt: &impl Print, passed: u64, failed: u64) -> io::Result<()> {
@@ -435,7 +412,7 @@ fn report(rt: &impl Print, passed: u64, failed: u64) -> io::Result<()> {
 
 fn run(rt: &impl Print, file: &mut impl Read) -> io::Result<()> {
     let r = read_lines(file);
-    if at_end(file) {
+    if reading::at_end(file) {
         report(rt, r.passed, r.failed)
     } else {
         report(rt, r.passed, more(r.failed))

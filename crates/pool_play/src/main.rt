@@ -57,33 +57,10 @@ fn play_script(rt: &impl Print, text: &[u8]) -> io::Result<()> {
     report::summary(rt, play.tally.numbers, play.tally.twice)
 }
 
-// Reads until the buffer is full, the file ends or a read fails, and answers how many bytes it put at the buffer's start.
-fn read_full(file: &mut impl Read, buffer: &mut [u8]) -> usize
-    ensures { result ≤ length buffer.new }
-{
-    let mut done = 0;
-    while done < buffer.len() {
-        let Ok(n) = file.read(&mut buffer[done..]) else {
-            return done;
-        };
-        if n == 0 {
-            return done;
-        }
-        done += n;
-    }
-    done
-}
-
-// Whether nothing is left to be read. A folder, which opens and cannot be read, answers false, and so does a script that is too long.
-fn at_end(file: &mut impl Read) -> bool {
-    let mut byte = [0u8; 1];
-    matches!(file.read(&mut byte), Ok(0))
-}
-
 fn run(rt: &impl Print, file: &mut impl Read) -> io::Result<()> {
     let mut script = [0u8; SCRIPT];
-    let n = read_full(file, &mut script);
-    if at_end(file) {
+    let n = reading::read_full(file, &mut script);
+    if reading::at_end(file) {
         play_script(rt, &script[..n])
     } else {
         report::text(rt, "the script cannot be read\n")

@@ -1,6 +1,6 @@
--- The loop of `known_answers::read_full` ends, since every read that goes on puts a byte at least into the buffer.
+-- The loop of `reading::read_full` ends, since every read that goes on puts a byte at least into the buffer.
 use Rattle.std.proofs.Common.{◌-◌, ◌≤◌, length}
-use Rattle.known_answers.proofs.read_full.Given as goal
+use Rattle.reading.proofs.read_full.Given as goal
 
 abbrev pub invariant-loop-done : goal.invariant-loop-done
 invariant-loop-done g l = l.done ≤ length l.buffer

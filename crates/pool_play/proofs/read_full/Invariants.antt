@@ -1,9 +1,0 @@
--- The loop of `pool_play::read_full` ends, since every read that goes on puts a byte at least into the buffer.
-use Rattle.std.proofs.Common.{◌-◌, ◌≤◌, length}
-use Rattle.pool_play.proofs.read_full.Given as goal
-
-abbrev pub invariant-loop-done : goal.invariant-loop-done
-invariant-loop-done g l = l.done ≤ length l.buffer
-
-abbrev pub decreases-loop-done : goal.decreases-loop-done
-decreases-loop-done g l = length l.initial.buffer - l.done
