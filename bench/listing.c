@@ -53,7 +53,7 @@ static uint32_t make_call(const struct listing_case *listing, const uint8_t *sec
 static unsigned long make_pairs(const struct listing_case *listing, const uint8_t *secrets, unsigned long pairs,
                                 unsigned every)
 {
-    uint64_t substitute = symbols_find("sbox::substitute");
+    uint64_t substitute = symbols_find("sbox::substitute_in_place");
     unsigned long refused = 0;
 
     watch_reset();
@@ -93,7 +93,7 @@ static bool as_expected(const struct listing_case *listing, struct findings foun
 static void test_same(const struct listing_case *listing, unsigned every)
 {
     watch_reset();
-    step_thin(symbols_find("sbox::substitute"), every, seed);
+    step_thin(symbols_find("sbox::substitute_in_place"), every, seed);
     tally_check(&tally, listing_same(listing, listing->secrets[0][0], next_run()), "same bytes in steps");
 }
 
@@ -154,7 +154,7 @@ int main(int count, char **words)
     if (count > 2)
         seed = strtoull(words[2], NULL, 10);
     for (size_t i = 0; i < sizeof all_amounts / sizeof *all_amounts; i++)
-        if (strcmp(amount, all_amounts[i].word) == 0 && symbols_read() && symbols_find("sbox::substitute") != 0)
+        if (strcmp(amount, all_amounts[i].word) == 0 && symbols_read() && symbols_find("sbox::substitute_in_place") != 0)
             return run_all(&all_amounts[i], count > 3 ? words[3] : "");
     fprintf(stderr, "usage: listing [slice|all] [SEED] [WORD], in a program with its symbol table\n");
     return 1;

@@ -23,7 +23,7 @@ fn turn_row(part: &mut [u8], row: usize, from: usize)
     part[row + 12] = d;
 }
 
-// 5.1.2 ShiftRows
+// 5.1.2 ShiftRows. It and its inverse go by the names of the standard; what both do is `turn_row`.
 pub fn shift_rows(part: &mut [u8])
     ensures { part.new ≡ on_state shift_rows part.old }
 {
@@ -50,10 +50,8 @@ fn add_key(part: &mut [u8], key: &[u8])
     requires { length part.old ≡ length key.now }
     ensures { part.new ≡ part.old ⊞ key.now }
 {
-    let mut i = 0;
-    while i < part.len() {
-        part[i] = part[i] ^ key[i];
-        i += 1;
+    for i in 0..part.len() {
+        part[i] ^= key[i];
     }
 }
 
@@ -68,6 +66,5 @@ pub fn add_round_key(part: &mut [u8], keys: &[u8], round: usize)
         return;
     }
     let at = 16 * round;
-    let from = &keys[at..];
-    add_key(part, &from[0..16]);
+    add_key(part, &keys[at..at + 16]);
 }

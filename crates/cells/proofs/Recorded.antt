@@ -15,7 +15,7 @@ use Rattle.tower.specs.Tower.{hi, lo, scaled_square, exchange, pair_product, nib
 use Rattle.tower.proofs.Split.{hi_lt, lo_lt, join_lt}
 use Rattle.tower.proofs.Level.{pair_level, nibble_level}
 use Rattle.tower.specs.declared.Record.{Record}
-use Rattle.points.specs.Points.{masked, fourteen, eight, points, record_points}
+use Rattle.points.specs.Points.{masked, fourteen, eight, record_points}
 use Rattle.cells.specs.Cells.{laid, cells_after, cells_of_points, recorded}
 
 cells_fit : (i : ℕ) → i < 62 → get_or cells_of_points i 0 < 126

@@ -54,13 +54,7 @@ struct Pairs {
     p42: u32,
 }
 
-fn wide(x: u8) -> u32
-    ensures { result ≡ x }
-{
-    x as u32
-}
-
-// Point n, into its cell.
+// Point n, into its cell. The numbers of points are literals, or next to one, so their bound is asked here: a type of theirs would be made at every call.
 fn put(cells: &mut [u8; 126], n: usize, value: u32)
     requires { n < 63 }
     ensures { cells.new ≡ set cells.old (n * 2) (value % 256) }
@@ -105,8 +99,8 @@ fn make_masks(cells: &mut [u8; 126], record: Record) -> Masks
 {
     let mask = cells[0];
     let q = lookup::high_nibble(record.qt);
-    let q1 = lookup::high_pair(q);
-    let q0 = lookup::low_pair(q);
+    let q1 = lookup::high::<2>(q);
+    let q0 = lookup::low::<2>(q);
     let p17 = add(cells, 17, q1, q0);
     let p18 = lookup::pair_square(p17);
     put(cells, 18, p18);
@@ -117,25 +111,25 @@ fn make_masks(cells: &mut [u8; 126], record: Record) -> Masks
     put(cells, 4, p4);
     let row_m1 = lookup::row(m1);
     let p8 = product(cells, 8, row_m1, m0);
-    let p30 = lookup::exchange(wide(record.r));
+    let p30 = lookup::exchange(u32::from(record.r));
     put(cells, 30, p30);
     let row_q1 = lookup::pair_row(q1);
     let row_p30 = lookup::pair_row(p30);
     let p22 = product(cells, 22, row_q1, q0);
     let row_t = lookup::row(lookup::low_nibble(record.qt));
     Masks {
-        m1: m1,
-        m0: m0,
-        q1: q1,
-        q0: q0,
-        row_m1: row_m1,
-        row_t: row_t,
-        row_q1: row_q1,
-        row_p30: row_p30,
-        p4: p4,
-        p8: p8,
-        p18: p18,
-        p22: p22,
+        m1,
+        m0,
+        q1,
+        q0,
+        row_m1,
+        row_t,
+        row_q1,
+        row_p30,
+        p4,
+        p8,
+        p18,
+        p22,
     }
 }
 
@@ -160,13 +154,13 @@ fn make_nibbles(cells: &mut [u8; 126], masked: u8, record: Record, masks: Masks)
     let p10 = add(cells, 10, p9, masks.p4);
     let b = add_four(cells, 11, p10, p5, p6, p7, masks.p8);
     Nibbles {
-        a1: a1,
-        a0: a0,
-        b: b,
-        p48: p48,
-        p50: p50,
-        p56: p56,
-        p58: p58,
+        a1,
+        a0,
+        b,
+        p48,
+        p50,
+        p56,
+        p58,
     }
 }
 
@@ -174,8 +168,8 @@ fn make_nibbles(cells: &mut [u8; 126], masked: u8, record: Record, masks: Masks)
 fn make_pairs(cells: &mut [u8; 126], record: Record, masks: Masks, b: u32) -> Pairs
     ensures { (a m : ℕ) → MasksOf a m «record» masks → b ≡ at 14 a m «record» → cells.old ≡ cells_after 2 a m «record» → (cells.new ≡ cells_after 3 a m «record») × PairsOf a m «record» result }
 {
-    let b1 = lookup::high_pair(b);
-    let b0 = lookup::low_pair(b);
+    let b1 = lookup::high::<2>(b);
+    let b0 = lookup::low::<2>(b);
     let p15 = add(cells, 15, b1, b0);
     let p16 = lookup::pair_square(p15);
     put(cells, 16, p16);
@@ -187,17 +181,17 @@ fn make_pairs(cells: &mut [u8; 126], record: Record, masks: Masks, b: u32) -> Pa
     let p42 = product(cells, 42, masks.row_p30, masks.q1);
     let p34 = product(cells, 34, masks.row_p30, masks.q0);
     let p20 = product(cells, 20, row_b1, masks.q0);
-    let p23 = add(cells, 23, wide(record.r), p16);
+    let p23 = add(cells, 23, u32::from(record.r), p16);
     let p24 = add(cells, 24, p23, masks.p18);
     let p28 = add_four(cells, 25, p24, p19, p20, p21, masks.p22);
     Pairs {
-        b1: b1,
-        b0: b0,
-        p28: p28,
-        p32: p32,
-        p34: p34,
-        p40: p40,
-        p42: p42,
+        b1,
+        b0,
+        p28,
+        p32,
+        p34,
+        p40,
+        p42,
     }
 }
 
@@ -213,11 +207,11 @@ fn make_exchanged(cells: &mut [u8; 126], record: Record, masks: Masks, pairs: Pa
     let p41 = product(cells, 41, row_p29, masks.q1);
     let p33 = product(cells, 33, row_p29, masks.q0);
     let t = lookup::low_nibble(record.qt);
-    let t1 = lookup::high_pair(t);
+    let t1 = lookup::high::<2>(t);
     let p38 = add_four(cells, 35, t1, p31, pairs.p32, p33, pairs.p34);
-    let t0 = lookup::low_pair(t);
+    let t0 = lookup::low::<2>(t);
     let p46 = add_four(cells, 43, t0, p39, pairs.p40, p41, pairs.p42);
-    lookup::join_pairs(p38, p46)
+    lookup::joined::<2>(p38, p46)
 }
 
 // Part 5, the masked inverse under the mask S: points 54 and 62 joined.
@@ -238,6 +232,7 @@ fn make_inverse(cells: &mut [u8; 126], record: Record, masks: Masks, nibbles: Ni
 
 // The 62 points, each left in its cell, and the masked inverse. The mask comes in cell 0, so that no register carries it beside the masked byte.
 // The products are taken in such an order that neither a register nor the flags go from a part to its mask; the running sums keep the order of rule 2.3.
+#[inline(never)]
 fn make_points(cells: &mut [u8; 126], masked: u8, record: Record) -> u8
     requires { cells.old ≡ cells_after 0 masked (get_or cells.old 0 0) «record» }
     ensures { (cells.new ≡ cells_after 5 masked (get_or cells.old 0 0) «record») × (result ≡ masked_inverse masked (get_or cells.old 0 0) «record») }
@@ -255,42 +250,17 @@ const CELLS: [u8; 62] = [
     100, 102, 104, 106, 108, 110, 112, 114, 116, 118, 120, 122, 124,
 ];
 
-fn table() -> [u8; 62]
-    ensures { result ≡ cells_of_points }
-{
-    CELLS
-}
-
-fn index(x: u8) -> usize
-    ensures { result ≡ x }
-{
-    x as usize
-}
-
 // The points from their cells to the buffer, one at a time: the table keeps the compiler from taking many at once.
 fn write_points(cells: &[u8; 126], points: &mut [u8])
     requires { length points.old ≡ 62 }
     ensures { points.new ≡ recorded 62 cells.now points.old }
 {
-    let table = table();
-    let mut i: usize = 0;
-    while i < 62 {
-        let cell = index(table[i]);
-        points[i] = cells[cell];
-        i += 1;
+    for i in 0..62 {
+        points[i] = cells[usize::from(CELLS[i])];
     }
 }
 
-// The masked inversion on tower bytes.
-pub fn invert(masked: u8, mask: u8, record: Record) -> u8
-    ensures { result ≡ masked_inverse masked mask «record» }
-{
-    let mut cells = [0u8; 126];
-    cells[0] = mask;
-    make_points(&mut cells, masked, record)
-}
-
-// The same, its points left in a buffer of 62 bytes; any other is left as it is.
+// The masked inversion on tower bytes, its points left in a buffer of 62 bytes; any other is left as it is.
 pub fn invert_points(masked: u8, mask: u8, record: Record, points: &mut [u8]) -> u8
     ensures { (result ≡ masked_inverse masked mask «record») × (points.new ≡ on_length 62 (λ _. record_points masked mask «record») points.old) }
 {
@@ -301,4 +271,11 @@ pub fn invert_points(masked: u8, mask: u8, record: Record, points: &mut [u8]) ->
         write_points(&cells, points);
     }
     inverse
+}
+
+// The same, its points left nowhere.
+pub fn invert(masked: u8, mask: u8, record: Record) -> u8
+    ensures { result ≡ masked_inverse masked mask «record» }
+{
+    invert_points(masked, mask, record, &mut [])
 }

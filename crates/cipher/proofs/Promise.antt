@@ -6,9 +6,8 @@ use mathlib.Core.List.{List}
 use lib.ListN.{length, get_or}
 use Rattle.fips197.specs.Cipher.{◌⊞◌}
 use Rattle.refusal.specs.declared.Refusal.{Refusal}
-use Rattle.refusal.specs.declared.Outcome.{Outcome}
-use Rattle.refusal.specs.declared.Outcome.TheVariants.{Done, Refused}
-use Rattle.refusal.specs.Answer.{Answer, done, refused, first, outcome}
+use Rattle.std.specs.Prelude.{Ok, Err}
+use Rattle.refusal.specs.Answer.{Answer, first}
 use Rattle.refusal.proofs.First.{all_passed, one_failed}
 use Rattle.strip.specs.Strip.{wiped}
 use Rattle.tower.specs.Claims.{Good}
@@ -31,27 +30,26 @@ unfolding worked_in bare_block
 all_rounds w s good d m h g keys Encrypt = encrypted w s good d m h g (rounds_in (length w)) (omega (arith, keys.least)) (omega (arith, keys.least))
 all_rounds w s good d m h g keys Decrypt = decrypted w s good d m h g (rounds_in (length w)) (omega (arith, keys.least)) (omega (arith, keys.least))
 
-module _ (d m w s : List ℕ) (v : Outcome) (e : outcome v ≡ first (checks (length d) (length m) (length w) s) refused (done tt)) where
-  pub block_refused : (dir : Direction) (r : Refusal) → v ≡ Refused r → (outcome v, (d, (m, s))) ≡ block_of dir d m w s
+module _ (d m w s : List ℕ) (v : Answer (Unit {0})) (e : v ≡ first (checks (length d) (length m) (length w) s) Err (Ok tt)) where
+  pub block_refused : (dir : Direction) (r : Refusal) → v ≡ Err r → (x : Answer (Unit {0})) → x ≡ Err r → (x, (d, (m, s))) ≡ block_of dir d m w s
   unfolding block_of
-  block_refused dir r f =
-      ap (λ (x : Answer (Unit {0})). (x, (d, (m, s)))) (ap outcome f)
-      ∙ one_failed (λ r. (refused r, (d, (m, s)))) _ tt (checks (length d) (length m) (length w) s) (outcome v) r e (ap outcome f)
+  block_refused dir r f x g =
+      ap (λ (y : Answer (Unit {0})). (y, (d, (m, s)))) g ∙ one_failed (λ r. (Err r, (d, (m, s)))) _ tt (checks (length d) (length m) (length w) s) v r e f
 
   -- where every check has passed: what the work asks for, and what it gives
-  module _ (f : v ≡ Done) where
+  module _ (u : Unit {0}) (f : v ≡ Ok u) where
     a : Admitted (length d) (length m) (length w) s
-    a = admitted (length d) (length m) (length w) s v e f
+    a = admitted (length d) (length m) (length w) s v e u f
 
     pub work_may : (16 ≤ length w) × (rounds_in (length w) < 256)
     work_may = (omega (arith, a.keys.least), omega (arith, a.keys.most))
 
     module _ (bytes : (j : ℕ) → get_or s j 0 < 256) (D M S : List ℕ) (gone : S ≡ wiped s) where
-      pub block_done : (dir : Direction) → (D, M) ≡ worked_in dir w s (d, m) → (done tt, (D, (M, S))) ≡ block_of dir d m w s
+      pub block_done : (dir : Direction) → (D, M) ≡ worked_in dir w s (d, m) → (Ok tt, (D, (M, S))) ≡ block_of dir d m w s
       unfolding block_of
       block_done dir p =
-          ap₂ (λ (p : List ℕ × List ℕ) (x : List ℕ). (done tt, (p.0, (p.1, x)))) (p ∙ all_rounds w s (all_good s _ a.strip bytes) d m a.block a.mask a.keys dir) gone
-          ∙ (all_passed (λ r. (refused r, (d, (m, s)))) _ tt (checks (length d) (length m) (length w) s) (outcome v) tt e (ap outcome f)).0
+          ap₂ (λ (p : List ℕ × List ℕ) (x : List ℕ). (Ok tt, (p.0, (p.1, x)))) (p ∙ all_rounds w s (all_good s _ a.strip bytes) d m a.block a.mask a.keys dir) gone
+          ∙ (all_passed (λ r. (Err r, (d, (m, s)))) _ tt (checks (length d) (length m) (length w) s) v u e f).0
 
 -- the rounds of each direction
 module _ (dir : Direction) (w s : List ℕ) (b b' : Parts) where

@@ -1,7 +1,7 @@
 -- What a block call answers: the first refusal, or FIPS 197 under the outgoing mask.
-use Rattle.std.specs.Prelude.{ℕ, List, length}
+use Rattle.std.specs.Prelude.{ℕ, List, length, Ok, Err}
 use Rattle.fips197.specs.Cipher.{◌⊞◌, cipher, inv_cipher}
-use Rattle.refusal.specs.Answer.{Answer, done, refused, first}
+use Rattle.refusal.specs.Answer.{Answer, first}
 use Rattle.strip.specs.Strip.{wiped}
 use Rattle.sbox.specs.declared.Direction.{Direction}
 use Rattle.sbox.specs.declared.Direction.TheVariants.{Encrypt, Decrypt}
@@ -17,4 +17,4 @@ bare_block Decrypt w b = inv_cipher (rounds_in (length w)) w b
 unfoldable pub block_of : Direction → List ℕ → List ℕ → List ℕ → List ℕ → Answer (Unit {0}) × (List ℕ × (List ℕ × List ℕ))
 block_of dir d m w s =
     let out = outgoing dir s (rounds_in (length w)) in
-    first (checks (length d) (length m) (length w) s) (λ r. (refused r, (d, (m, s)))) (done tt, (bare_block dir w (d ⊞ m) ⊞ out, (out, wiped s)))
+    first (checks (length d) (length m) (length w) s) (λ r. (Err r, (d, (m, s)))) (Ok tt, (bare_block dir w (d ⊞ m) ⊞ out, (out, wiped s)))

@@ -2,16 +2,15 @@
 #![tactic(auto)]
 
 ghost use Rattle.std.specs.Prelude.{◌≡◌, ◌<◌, ◌≤◌, length};
-ghost use Rattle.refusal.specs.Answer.{outcome};
 ghost use Rattle.sbox.specs.declared.Direction.TheVariants as way;
 ghost use Rattle.block_checks.specs.Checks.{rounds_in};
 ghost use Rattle.cipher.specs.Block.{block_of};
 ghost use Rattle.cipher.specs.Inner.{worked_in};
 
-use refusal::Outcome;
+use refusal::Refusal;
 use sbox::Direction;
 
-// The rounds of a direction, as many as there are round keys for.
+// The rounds of a direction, as many as there are round keys for. The parts go on as they are lent.
 fn work(direction: Direction, block: &mut [u8], mask: &mut [u8], round_keys: &[u8], strip: &[u8])
     requires { (16 ≤ length round_keys.now) × (rounds_in (length round_keys.now) < 256) }
     ensures { (block.new, mask.new) ≡ worked_in direction round_keys.now strip.now (block.old, mask.old) }
@@ -30,28 +29,35 @@ pub fn serve(
     mask: &mut [u8],
     round_keys: &[u8],
     strip: &mut [u8],
-) -> Outcome
-    ensures { (outcome result, (block.new, (mask.new, strip.new))) ≡ block_of direction block.old mask.old round_keys.now strip.old }
+) -> Result<(), Refusal>
+    ensures { (result, (block.new, (mask.new, strip.new))) ≡ block_of direction block.old mask.old round_keys.now strip.old }
 {
-    let checked = block_checks::check(block.len(), mask.len(), round_keys.len(), strip);
-    let Outcome::Done = checked else {
-        return checked;
-    };
+    block_checks::check(block.len(), mask.len(), round_keys.len(), strip)?;
     work(direction, block, mask, round_keys, strip);
     strip::wipe(strip);
-    Outcome::Done
+    Ok(())
 }
 
 // Encrypts a masked block: block and mask are rewritten where they stand.
-pub fn encrypt(block: &mut [u8], mask: &mut [u8], round_keys: &[u8], strip: &mut [u8]) -> Outcome
-    ensures { (outcome result, (block.new, (mask.new, strip.new))) ≡ block_of way.Encrypt block.old mask.old round_keys.now strip.old }
+pub fn encrypt(
+    block: &mut [u8],
+    mask: &mut [u8],
+    round_keys: &[u8],
+    strip: &mut [u8],
+) -> Result<(), Refusal>
+    ensures { (result, (block.new, (mask.new, strip.new))) ≡ block_of way.Encrypt block.old mask.old round_keys.now strip.old }
 {
     serve(Direction::Encrypt, block, mask, round_keys, strip)
 }
 
 // Decrypts a masked block likewise.
-pub fn decrypt(block: &mut [u8], mask: &mut [u8], round_keys: &[u8], strip: &mut [u8]) -> Outcome
-    ensures { (outcome result, (block.new, (mask.new, strip.new))) ≡ block_of way.Decrypt block.old mask.old round_keys.now strip.old }
+pub fn decrypt(
+    block: &mut [u8],
+    mask: &mut [u8],
+    round_keys: &[u8],
+    strip: &mut [u8],
+) -> Result<(), Refusal>
+    ensures { (result, (block.new, (mask.new, strip.new))) ≡ block_of way.Decrypt block.old mask.old round_keys.now strip.old }
 {
     serve(Direction::Decrypt, block, mask, round_keys, strip)
 }

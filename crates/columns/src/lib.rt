@@ -22,6 +22,7 @@ fn mix_byte(a: u8, b: u8, c: u8, d: u8) -> u8
 }
 
 // It is a call of its own, so that the compiler makes no vector of a state: a vector register would go from the data's columns to the mask's.
+// A column is lent as a part of the state, as the rules have it; as an array it would have to be made of that part at each of four calls.
 #[inline(never)]
 fn mix_column(column: &mut [u8])
     requires { length column.old ≡ 4 }
@@ -59,7 +60,7 @@ fn inverse_mix_column(column: &mut [u8])
     column[3] = w ^ x ^ sum ^ d;
 }
 
-// A column of either direction. The direction is no secret, so it may decide a jump.
+// A column of either direction. The direction is no secret, so it may decide a jump; a closure in its place would need a contract over a lent column.
 fn mix_column_by(column: &mut [u8], inverse: bool)
     requires { length column.old ≡ 4 }
     ensures { column.new ≡ column_of (byte_by inverse) column.old }

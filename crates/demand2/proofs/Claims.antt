@@ -10,8 +10,8 @@ use Rattle.fips197.proofs.State.{plus_off, length_plus, length_state}
 use Rattle.fips197.proofs.Undo.{bytes_plus, key_short}
 use Rattle.fips197.proofs.Words.{expanded_length, expansion_bytes}
 use Rattle.fips197.proofs.Claims.{undone}
-use Rattle.refusal.specs.declared.Check.TheVariants.{Passed}
-use Rattle.refusal.specs.Answer.{Answer, done, refused, first, none_of}
+use Rattle.std.specs.Prelude.{Ok, Err}
+use Rattle.refusal.specs.Answer.{Answer, first, none_of}
 use Rattle.refusal.proofs.First.{found, all_passed}
 use Rattle.strip.specs.Strip.{form_of, wiped}
 use Rattle.sbox.specs.declared.Direction.{Direction}
@@ -43,7 +43,7 @@ of_size key nk p h e =
 
 sized : (key : List ℕ) → wrong_key key ≡ false → Sized key
 sized key e =
-    found 16 24 32 (length key) Passed (sym e) refl
+    found 16 24 32 (length key) e
     (λ h. of_size key 4 (omega arith) h refl)
     (λ h. of_size key 6 (omega arith) h refl)
     (λ h. of_size key 8 (omega arith) h refl)
@@ -54,18 +54,18 @@ unfolding first
 expands key buffer e f = rw (e, f) refl
 
 -- every check of a block call passes, and it leaves AES under the outgoing mask
-module _ (dir : Direction) (key d m s : List ℕ) (e : wrong_key key ≡ false) (hd : length d ≡ 16) (hm : length m ≡ 16) (hs : form_of s (length key) ≡ done tt) where
-  passes : ◌≡◌ {A = Answer (Unit {0})} (done tt) (first (checks (length d) (length m) (length (words key)) s) refused (done tt))
+module _ (dir : Direction) (key d m s : List ℕ) (e : wrong_key key ≡ false) (hd : length d ≡ 16) (hm : length m ≡ 16) (hs : form_of s (length key) ≡ Ok tt) where
+  passes : ◌≡◌ {A = Answer (Unit {0})} (Ok tt) (first (checks (length d) (length m) (length (words key)) s) Err (Ok tt))
   unfolding first
   passes = rw (hd, hm, (sized key e).known, (sized key e).size) (sym hs)
 
   abbrev out : List ℕ
   out = outgoing dir s (key_rounds key)
 
-  leaves : block_of dir d m (words key) s ≡ (done tt, (bare_block dir (words key) (d ⊞ m) ⊞ out, (out, wiped s)))
+  leaves : block_of dir d m (words key) s ≡ (Ok tt, (bare_block dir (words key) (d ⊞ m) ⊞ out, (out, wiped s)))
   unfolding block_of
   leaves =
-      sym (all_passed (λ r. (refused r, (d, (m, s)))) _ tt (checks (length d) (length m) (length (words key)) s) (done tt) tt passes refl).0
+      sym (all_passed (λ r. (Err r, (d, (m, s)))) _ tt (checks (length d) (length m) (length (words key)) s) (Ok tt) tt passes refl).0
       ∙ rw (sized key e).rounds refl
 
 bare_is : (dir : Direction) (key b : List ℕ) → wrong_key key ≡ false → bare_block dir (words key) b ≡ claims.aes dir key b

@@ -1,8 +1,8 @@
 -- Demand 2: what is claimed of the calls, from their promises alone. Each claim is proved in proofs/Claims.antt.
-use Rattle.std.specs.Prelude.{◌≡◌, List, false, ℕ, length}
+use Rattle.std.specs.Prelude.{◌≡◌, List, false, ℕ, length, Ok}
 use Rattle.fips197.specs.Cipher.{◌⊞◌, cipher, inv_cipher, key_expansion}
 use Rattle.fips197.specs.Claims.{Bytes}
-use Rattle.refusal.specs.Answer.{Answer, done}
+use Rattle.refusal.specs.Answer.{Answer}
 use Rattle.strip.specs.Strip.{form_of}
 use Rattle.sbox.specs.declared.Direction.{Direction}
 use Rattle.sbox.specs.declared.Direction.TheVariants.{Encrypt, Decrypt}
@@ -26,14 +26,14 @@ pub record GoodInput (key buffer d m s : List ℕ) : Type 0 where
   pub right_key : wrong_key key ≡ false
   pub right_buffer : wrong_buffer key buffer ≡ false
   pub sixteen : (length d ≡ 16) × (length m ≡ 16)
-  pub good_strip : form_of s (length key) ≡ done tt
+  pub good_strip : form_of s (length key) ≡ Ok tt
 
 -- for every key, block, mask and good strip: served, and without its mask it is AES
 abbrev pub Served : Type 0
 Served = (dir : Direction) (key buffer d m s : List ℕ) → GoodInput key buffer d m s
-    → let after = block_of dir d m (expansion_of key buffer).1 s in (answer after ≡ done tt) × (unmasked after ≡ aes dir key (d ⊞ m))
+    → let after = block_of dir d m (expansion_of key buffer).1 s in (answer after ≡ Ok tt) × (unmasked after ≡ aes dir key (d ⊞ m))
 
 -- decrypting what was encrypted, with a further strip, gives the block back
 abbrev pub GivenBack : Type 0
-GivenBack = (key buffer d m s t : List ℕ) → GoodInput key buffer d m s → form_of t (length key) ≡ done tt → Bytes key → Bytes d → Bytes m
+GivenBack = (key buffer d m s t : List ℕ) → GoodInput key buffer d m s → form_of t (length key) ≡ Ok tt → Bytes key → Bytes d → Bytes m
     → let w = (expansion_of key buffer).1 in let sent = (block_of Encrypt d m w s).1 in unmasked (block_of Decrypt sent.0 sent.1.0 w t) ≡ d ⊞ m

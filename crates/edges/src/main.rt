@@ -2,156 +2,139 @@
 // the rules say with nothing lent changed, and how many did anything else.
 #![tactic(auto)]
 
-ghost use Rattle.std.specs.Prelude.{◌≤◌, length};
+ghost use Rattle.std.specs.Prelude.{ℕ, ◌<◌, ◌≤◌};
 
-use inversion::Masked;
-use std::io;
-use tower::{Element, Record};
+use refusal::Refusal;
+use std::{fmt, io};
+use tower::Record;
 
 const UNTOUCHED: u8 = 0xa5;
 
-#[derive(Drop)]
-struct Counts {
-    answered: u64,
-    refused: u64,
-    other: u64,
-}
-
-#[derive(Drop)]
+// What a call did. There are three cases, each with nothing in it, so it is no Result.
+#[derive(Clone, Copy, Debug, PartialEq, Eq)]
 enum Outcome {
     Answered,
     Refused,
     Other,
 }
 
-fn count(t: Counts, o: Outcome) -> Counts {
-    match o {
-        Outcome::Answered => Counts {
-            answered: t.answered.wrapping_add(1),
-            refused: t.refused,
-            other: t.other,
-        },
-        Outcome::Refused => Counts {
-            answered: t.answered,
-            refused: t.refused.wrapping_add(1),
-            other: t.other,
-        },
-        Outcome::Other => Counts {
-            answered: t.answered,
-            refused: t.refused,
-            other: t.other.wrapping_add(1),
-        },
+#[derive(Clone, Copy, Default)]
+struct Counts {
+    answered: u64,
+    refused: u64,
+    other: u64,
+}
+
+impl Counts {
+    fn add(&mut self, outcome: Outcome) {
+        let count = match outcome {
+            Outcome::Answered => &mut self.answered,
+            Outcome::Refused => &mut self.refused,
+            Outcome::Other => &mut self.other,
+        };
+        *count = count.wrapping_add(1);
     }
 }
 
-fn report(rt: &impl Print, name: &str, t: Counts) -> io::Result<()> {
-    println!(rt; "{name} {} {} {}", t.answered, t.refused, t.other)
-}
-
-fn element_outcome(e: Element) -> Outcome {
-    match e {
-        Element::Value(_) => Outcome::Answered,
-        Element::Refused(r) => {
-            if refusal::refusal_number(r) == 1 {
-                Outcome::Refused
-            } else {
-                Outcome::Other
-            }
-        }
+impl fmt::Display for Counts {
+    fn fmt<W: fmt::Write>(&self, f: &mut fmt::Formatter<W>) -> fmt::Result {
+        write!(f, "{} {} {}", self.answered, self.refused, self.other)
     }
 }
 
-fn unchanged(buffer: &[u8]) -> bool {
-    let mut i: usize = 0;
-    while i < buffer.len() {
-        if buffer[i] != UNTOUCHED {
-            return false;
-        }
-        i += 1;
-    }
-    true
-}
-
-// Whether a call refused with this number, and then left its buffer alone.
-fn masked_outcome(m: Masked, expected: u32, same: bool) -> Outcome {
-    match m {
-        Masked::Byte(_, _) => Outcome::Answered,
-        Masked::Refused(r) => {
-            if !same {
-                return Outcome::Other;
-            }
-            if refusal::refusal_number(r) == expected {
-                Outcome::Refused
-            } else {
-                Outcome::Other
-            }
-        }
+// Whether a call refused, as it has to if it does, for this reason and with what it was lent unchanged.
+fn judge<T: Drop>(answer: Result<T, Refusal>, expected: Refusal, unchanged: bool) -> Outcome {
+    match answer {
+        Ok(_) => Outcome::Answered,
+        Err(refusal) if unchanged && refusal == expected => Outcome::Refused,
+        Err(_) => Outcome::Other,
     }
 }
 
-// A call on the first n bytes of a buffer, with this third record byte.
-fn called(buffer: &mut [u8], n: usize, r: u8) -> Masked
-    requires { n ≤ length buffer.old }
+// A call of the tower, which is lent nothing.
+fn operand(answer: Result<u8, Refusal>) -> Outcome {
+    judge(answer, Refusal::Operand, true)
+}
+
+// A call with this third record byte on the first n bytes of a fresh buffer, which has to be refused for this reason, if at all.
+fn points(n: usize, r: u8, expected: Refusal) -> Outcome
+    requires { n ≤ 200 }
 {
     let record = Record {
         qt: 0x59,
         s: 0x3c,
-        r: r,
+        r,
     };
-    inversion::invert_points(0x11, 0x42, record, &mut buffer[..n])
-}
-
-// The same on a fresh buffer, which has to be refused with this number, if at all.
-fn fresh(n: usize, r: u8, expected: u32) -> Outcome
-    requires { n ≤ 200 }
-{
     let mut buffer = [UNTOUCHED; 200];
-    let m = called(&mut buffer, n, r);
-    let same = unchanged(&buffer);
-    masked_outcome(m, expected, same)
+    let answer = inversion::invert_points(0x11, 0x42, record, &mut buffer[..n]);
+    let unchanged = buffer == [UNTOUCHED; 200];
+    judge(answer, expected, unchanged)
 }
 
-// One call of a kind: its operands are the two bytes of i, or i is the length or the third record byte.
-fn one_call(kind: u8, i: usize) -> Outcome {
-    let x = (i % 256) as u8;
-    let y = (i / 256 % 256) as u8;
-    if kind == 0 {
-        return element_outcome(tower::pair_product(x, y));
+// Calls with 0 and every number below this one.
+fn tally<F: Fn(usize) -> Outcome>(calls: usize, call: F) -> Counts
+where
+    F: Drop,
+    requires { (i : ℕ) → i < calls → F.pre call i }
+{
+    let mut counts = Counts::default();
+    for i in 0..calls {
+        counts.add(call(i));
     }
-    if kind == 1 {
-        return element_outcome(tower::pair_inverse(x));
-    }
-    if kind == 2 {
-        return element_outcome(tower::nibble_product(x, y));
-    }
-    if kind == 3 {
-        return element_outcome(tower::nibble_inverse(x));
-    }
-    if kind == 4 {
-        return fresh(i % 201, 1, 3);
-    }
-    fresh(62, x, 2)
+    counts
 }
 
-fn tally(kind: u8, calls: usize) -> Counts {
-    let mut t = Counts {
-        answered: 0,
-        refused: 0,
-        other: 0,
-    };
-    let mut i: usize = 0;
-    while i < calls {
-        t = count(t, one_call(kind, i));
-        i += 1;
-    }
-    t
+// Calls with every two bytes.
+fn pairs<F: Fn(u8, u8) -> Outcome>(call: F) -> Counts
+where
+    F: Drop,
+    requires { F.IsAlwaysCallable call }
+{
+    tally(65536, |i| call((i % 256) as u8, (i / 256) as u8))
+}
+
+// Calls with every byte.
+fn bytes<F: Fn(u8) -> Outcome>(call: F) -> Counts
+where
+    F: Drop,
+    requires { F.IsAlwaysCallable call }
+{
+    tally(256, |i| call(i as u8))
+}
+
+fn report(rt: &impl Print, name: &str, counts: Counts) -> io::Result<()> {
+    println!(rt; "{name} {counts}")
 }
 
 fn main(rt: HostRuntime) -> io::Result<()> {
-    report(&rt, "pair_product", tally(0, 65536))?;
-    report(&rt, "pair_inverse", tally(1, 256))?;
-    report(&rt, "nibble_product", tally(2, 65536))?;
-    report(&rt, "nibble_inverse", tally(3, 256))?;
-    report(&rt, "points_length", tally(4, 201))?;
-    report(&rt, "third_record_byte", tally(5, 256))
+    report(
+        &rt,
+        "pair_product",
+        pairs(|x, y| operand(tower::pair_product(x, y))),
+    )?;
+    report(
+        &rt,
+        "pair_inverse",
+        bytes(|x| operand(tower::pair_inverse(x))),
+    )?;
+    report(
+        &rt,
+        "nibble_product",
+        pairs(|x, y| operand(tower::nibble_product(x, y))),
+    )?;
+    report(
+        &rt,
+        "nibble_inverse",
+        bytes(|x| operand(tower::nibble_inverse(x))),
+    )?;
+    report(
+        &rt,
+        "points_length",
+        tally(201, |n| points(n, 1, Refusal::PointsLength)),
+    )?;
+    report(
+        &rt,
+        "third_record_byte",
+        bytes(|r| points(62, r, Refusal::ThirdByte)),
+    )
 }

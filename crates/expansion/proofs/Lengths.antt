@@ -2,13 +2,11 @@
 use Prim.Native.Nat.{ℕ, ◌+◌, ◌-◌, ◌*◌, ◌/◌, ◌≤◌}
 use mathlib.Core.Path.{◌≡◌, refl, ap, ◌∙◌}
 use mathlib.Core.List.{List, [], ◌∷◌, ◌++◌}
+use mathlib.Core.Bool.{false}
 use native.Mathlib.Omega.{arith}
 use lib.ListN.{length, take, drop}
 use lib.Seq.{take_at}
 use Rattle.fips197.specs.Cipher.{expanded, key_expansion}
-use Rattle.refusal.specs.declared.Check.{Check}
-use Rattle.refusal.specs.declared.Check.TheVariants.{Passed}
-use Rattle.refusal.specs.Refusal.{failed}
 use Rattle.refusal.specs.Answer.{none_of}
 use Rattle.refusal.proofs.First.{found}
 
@@ -20,9 +18,9 @@ pub record Sized (n : ℕ) : Type 0 where
 sized_of : (n m : ℕ) → n ≡ m → 16 ≤ m → m ≤ 32 → m ≡ 4 * (m / 4) → Sized n
 sized_of n m e l h w = record { least = omega arith; most = omega arith; whole = omega arith }
 
-pub sized : (n : ℕ) (k : Check) → failed k ≡ none_of (16 ∷ 24 ∷ 32 ∷ []) n → k ≡ Passed → Sized n
-sized n k e p =
-    found 16 24 32 n k e p
+pub sized : (n : ℕ) → none_of (16 ∷ 24 ∷ 32 ∷ []) n ≡ false → Sized n
+sized n e =
+    found 16 24 32 n e
     (λ q. sized_of n 16 q (omega arith) (omega arith) refl)
     (λ q. sized_of n 24 q (omega arith) (omega arith) refl)
     (λ q. sized_of n 32 q (omega arith) (omega arith) refl)

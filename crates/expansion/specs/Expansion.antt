@@ -1,7 +1,7 @@
 -- Key expansion as the call promises it: FIPS 197, 5.2, for a key of 16, 24 or 32 bytes, or a refusal.
-use Rattle.std.specs.Prelude.{ℕ, ◌+◌, ◌*◌, ◌/◌, List, [], ◌∷◌, Bool, length}
+use Rattle.std.specs.Prelude.{ℕ, ◌+◌, ◌*◌, ◌/◌, List, [], ◌∷◌, Bool, length, Ok, Err}
 use Rattle.fips197.specs.Cipher.{rounds_for, key_expansion}
-use Rattle.refusal.specs.Answer.{Answer, done, refused, first, is_not, none_of}
+use Rattle.refusal.specs.Answer.{Answer, first, is_not, none_of}
 
 -- the words of a key, of four bytes each, and the rounds for it
 abbrev pub key_words : List ℕ → ℕ
@@ -21,5 +21,5 @@ wrong_buffer key w = is_not (16 * (key_rounds key + 1)) (length w)
 -- what the call answers, with the buffer it leaves: the round keys, or after a refusal what was in it
 abbrev pub expansion_of : List ℕ → List ℕ → Answer (Unit {0}) × List ℕ
 expansion_of key w =
-    first ((4, wrong_key key) ∷ (5, wrong_buffer key w) ∷ []) (λ r. (refused r, w))
-    (done tt, key_expansion (key_words key) (key_rounds key) key)
+    first ((4, wrong_key key) ∷ (5, wrong_buffer key w) ∷ []) (λ r. (Err r, w))
+    (Ok tt, key_expansion (key_words key) (key_rounds key) key)

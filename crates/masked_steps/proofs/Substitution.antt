@@ -4,36 +4,27 @@ use native.Mathlib.Omega.{arith}
 use mathlib.Core.Path.{◌≡◌, refl, sym, ap, ap₂, ◌∙◌}
 use mathlib.Core.List.{List, [], ◌∷◌}
 use lib.ListN.{length, get_or, set, length-set}
-use lib.Seq.{set-get_or}
 use Rattle.fips197.specs.Cipher.{cell, state}
 use Rattle.fips197.proofs.State.{length_state}
 use Rattle.fips197.proofs.Undo.{cell_of}
-use Rattle.refusal.specs.declared.Refusal.{Refusal}
-use Rattle.refusal.specs.Answer.{above}
-use Rattle.refusal.proofs.First.{all_passed, one_failed}
+use Rattle.std.specs.Prelude.{Err}
+use Rattle.refusal.specs.Answer.{Answer, above}
+use Rattle.refusal.proofs.First.{first_part}
 use Rattle.aes.proofs.Front.{front, front_none, front_step, front_here, front_done}
 use Rattle.tower.specs.declared.Record.{Record}
-use Rattle.inversion.specs.declared.Masked.{Masked}
-use Rattle.inversion.specs.declared.Masked.TheVariants.{Byte, Refused}
-use Rattle.inversion.specs.Answers.{byte_and_mask}
 use Rattle.sbox.specs.declared.Direction.{Direction}
-use Rattle.sbox.specs.Sbox.{new_byte, new_mask, substituted}
+use Rattle.sbox.specs.Sbox.{substituted_in_place}
 use Rattle.masked_steps.specs.Steps.{record_at, boxed, all_boxed, masked_sub_bytes}
 use Rattle.masked_steps.proofs.Parts.{on_states_law, no_data, no_mask}
 
 -- ---- one byte
 
-module _ (dir : Direction) (d m : ℕ) (ρ : Record) (v : Masked) (e : byte_and_mask v ≡ substituted dir d m ρ) where
-  served : (x y : ℕ) → v ≡ Byte x y → ◌≡◌ {A = ℕ × ℕ} (x, y) (boxed dir d m ρ)
-  unfolding boxed
-  served x y f =
-      let new : ℕ × ℕ = (new_byte dir d m ρ, new_mask dir ρ) in
-      let is = all_passed {X = ℕ × ℕ} (λ _. (d, m)) new new ((2, above 3 ρ.r) ∷ []) (byte_and_mask v) (x, y) e (ap byte_and_mask f) in
-      is.1 ∙ is.0
-
-  stayed : (r : Refusal) → v ≡ Refused r → ◌≡◌ {A = ℕ × ℕ} (d, m) (boxed dir d m ρ)
-  unfolding boxed
-  stayed r f = one_failed {X = ℕ × ℕ} (λ _. (d, m)) _ (new_byte dir d m ρ, new_mask dir ρ) ((2, above 3 ρ.r) ∷ []) (byte_and_mask v) r e (ap byte_and_mask f)
+-- what the S-box leaves of a byte and its mask, whatever it answers
+pub left : (dir : Direction) (d m : ℕ) (ρ : Record) (v : Answer (Unit {0})) (x y : ℕ) (points : List ℕ) → (v, (x, (y, points))) ≡ substituted_in_place dir d m ρ [] → ◌≡◌ {A = ℕ × ℕ} (x, y) (boxed dir d m ρ)
+unfolding boxed
+left dir d m ρ v x y points e =
+    let both : Answer (Unit {0}) × (ℕ × (ℕ × List ℕ)) → ℕ × ℕ = λ p. (p.1.0, p.1.1.0) in
+    ap both e ∙ first_part both ((2, above 3 ρ.r) ∷ []) (λ r. (Err r, (d, (m, [])))) _
 
 -- ---- the byte at a position of the state
 
@@ -111,14 +102,10 @@ module _ (dir : Direction) (s : List ℕ) (n : ℕ) (d m : List ℕ) where
           is_m = front_step new_masks m M i went.is_m (mask_long ∙ sym hm) y (omega arith) new_y;
         }
 
-    -- what the S-box answered: a byte of each part, or a refusal; D' and M' are the parts after this position
-    module _ (D' M' : List ℕ) (ρ : Record) (v : Masked) (h : i < 16) (r : ρ ≡ record_at s (16 * n + i)) (e : byte_and_mask v ≡ substituted dir (get_or D i 0) (get_or M i 0) ρ) where
-      pub went_more : (x y : ℕ) → v ≡ Byte x y → D' ≡ set D i x → M' ≡ set M i y → Went D' M' (i + 1)
-      went_more x y f p q = rw (p, q) (went_stored x y ρ h r (served dir (get_or D i 0) (get_or M i 0) ρ v e x y f))
-
-      pub went_stayed : (k : Refusal) → v ≡ Refused k → D' ≡ D → M' ≡ M → Went D' M' (i + 1)
-      went_stayed k f p q =
-          rw (p ∙ sym (set-get_or D i 0), q ∙ sym (set-get_or M i 0)) (went_stored (get_or D i 0) (get_or M i 0) ρ h r (stayed dir (get_or D i 0) (get_or M i 0) ρ v e k f))
+    -- the next position: x and y are what the S-box left there
+    pub went_more : (x y : ℕ) (ρ : Record) (v : Answer (Unit {0})) (points : List ℕ) → i < 16 → ρ ≡ record_at s (16 * n + i)
+        → (v, (x, (y, points))) ≡ substituted_in_place dir (get_or D i 0) (get_or M i 0) ρ [] → Went (set D i x) (set M i y) (i + 1)
+    went_more x y ρ v points h r e = went_stored x y ρ h r (left dir (get_or D i 0) (get_or M i 0) ρ v x y points e)
 
     pub went_all : i ≡ 16 → (D, M) ≡ masked_sub_bytes dir s n (d, m)
     unfolding masked_sub_bytes

@@ -1,12 +1,11 @@
 // The steps of a masked round: SubBytes on data and mask together, and on each part alone what follows it. Each is total.
-#![tactic(auto)]
+#![tactic(auto, unfolding(crate::specs::Steps::except_last, crate::specs::Steps::restored, crate::specs::Steps::record_at))]
 
 ghost use Rattle.std.specs.Prelude.{◌≡◌};
 ghost use Rattle.fips197.specs.Cipher.{mix_columns};
 ghost use Rattle.aes.specs.Steps.{on_state};
 ghost use Rattle.masked_steps.specs.Steps.{record_at, masked_sub_bytes, except_last, restored};
 
-use inversion::Masked;
 use sbox::Direction;
 use tower::Record;
 
@@ -14,15 +13,7 @@ use tower::Record;
 fn record_at(strip: &[u8], index: usize) -> Record
     ensures { result ≡ record_at strip.now index }
 {
-    let part = strip::record(strip, index);
-    if part.len() < 3 {
-        return Record { qt: 0, s: 0, r: 0 };
-    }
-    Record {
-        qt: part[0],
-        s: part[1],
-        r: part[2],
-    }
+    sbox::record_of(strip::record(strip, index))
 }
 
 // Every byte of the state through its S-box, each with the record of its position in this round of the work.
@@ -42,35 +33,33 @@ pub fn substitute_bytes(
     if mask.len() != 16 {
         return;
     }
-    let mut position = 0;
-    while position < 16 {
+    for position in 0..16 {
         let record = record_at(strip, 16 * (round as usize) + position);
-        let answer = sbox::substitute(direction, block[position], mask[position], record);
-        if let Masked::Byte(data, outgoing) = answer {
-            block[position] = data;
-            mask[position] = outgoing;
-        }
-        position += 1;
+        let _ = sbox::substitute_in_place(
+            direction,
+            &mut block[position],
+            &mut mask[position],
+            record,
+            &mut [],
+        );
     }
 }
 
-// Every round but the last mixes the columns of each part.
+// Every round but the last mixes the columns of each part. Which it is may be any, since the call promises both (docs/PROMISES.md).
 pub fn mix(part: &mut [u8], last: bool)
     ensures { part.new ≡ except_last last (on_state mix_columns) part.old }
 {
-    if last {
-        return;
+    if !last {
+        columns::mix_columns(part);
     }
-    columns::mix_columns(part);
 }
 
-// Every round but the last mixes the columns of each part back, and shifts back the rows, with which the next round begins.
+// Likewise every round but the last mixes the columns of each part back, and shifts back the rows, with which the next round begins.
 pub fn restore(part: &mut [u8], last: bool)
     ensures { part.new ≡ except_last last restored part.old }
 {
-    if last {
-        return;
+    if !last {
+        columns::inverse_mix_columns(part);
+        aes::inverse_shift_rows(part);
     }
-    columns::inverse_mix_columns(part);
-    aes::inverse_shift_rows(part);
 }

@@ -1,4 +1,5 @@
 // The rounds of FIPS 197 on data and mask, one after the other, in each direction.
+// Block, mask, round keys and strip go from call to call as the entry over C lends them; a struct of them would be made and taken apart for one private call in each direction.
 #![tactic(auto)]
 
 ghost use Rattle.std.specs.Prelude.{◌≡◌, ◌<◌};
@@ -39,10 +40,8 @@ pub fn encrypt_rounds(
     ensures { (block.new, mask.new) ≡ masked_cipher round_keys.now strip.now rounds (block.old, mask.old) }
 {
     aes::add_round_key(block, round_keys, 0);
-    let mut round = 0;
-    while round < rounds {
+    for round in 0..rounds {
         encrypt_round(block, mask, round_keys, strip, round, rounds);
-        round += 1;
     }
 }
 
@@ -79,9 +78,7 @@ pub fn decrypt_rounds(
     aes::inverse_shift_rows(mask);
     aes::add_round_key(block, round_keys, rounds as usize);
     aes::inverse_shift_rows(block);
-    let mut done = 0;
-    while done < rounds {
+    for done in 0..rounds {
         decrypt_round(block, mask, round_keys, strip, done, rounds);
-        done += 1;
     }
 }

@@ -1,9 +1,9 @@
 -- What each call of a pool refuses, in the order of rule 7.9: the numbers, each with whether it applies.
-use Rattle.std.specs.Prelude.{ℕ, List, [], ◌∷◌, ◌++◌, Bool, true, false, not, ◌||◌, drop, ltb}
+use Rattle.std.specs.Prelude.{ℕ, List, [], ◌∷◌, ◌++◌, Bool, true, false, not, ◌||◌, drop, ltb, Option, Some, None}
 use Rattle.strip.specs.Strip.{own_checks}
 use Rattle.pool_message.specs.Message.{read_of}
 use Rattle.pool_message.specs.declared.Message.{Message}
-use Rattle.pool_message.specs.declared.Message.TheVariants.{Adds, Takes, Acknowledges, Unreadable}
+use Rattle.pool_message.specs.declared.Message.TheVariants.{Adds, Takes, Acknowledges}
 use Rattle.pool_state.specs.State.{standby, state_in, no_state}
 use Rattle.pool_master.specs.Master.{waiting, used_up, no_room, none_held, is_standby}
 use Rattle.pool_lent.specs.Lent.{not_lent, not_lent_with, not_lent_out}
@@ -24,11 +24,11 @@ abbrev pub outstanding_checks : List ℕ → ℕ → ℕ → List (ℕ × Bool)
 outstanding_checks st rooms message = (6, not_lent_with 688 st rooms message) ∷ []
 
 -- ---- an acknowledgement
-abbrev pub is_acknowledgement : Message → Bool
-is_acknowledgement (Adds k n) = false
-is_acknowledgement (Takes k n) = false
-is_acknowledgement (Acknowledges k) = true
-is_acknowledgement Unreadable = false
+abbrev pub is_acknowledgement : Option Message → Bool
+is_acknowledgement (Some (Adds k n)) = false
+is_acknowledgement (Some (Takes k n)) = false
+is_acknowledgement (Some (Acknowledges k)) = true
+is_acknowledgement None = false
 
 abbrev pub acknowledge_checks : List ℕ → ℕ → List ℕ → ℕ → ℕ → List (ℕ × Bool)
 acknowledge_checks st rooms bytes number strip = (6, not_lent_out st rooms number strip) ∷ (16, not (is_acknowledgement (read_of bytes))) ∷ []

@@ -6,10 +6,9 @@ use mathlib.Core.List.{List}
 use mathlib.Core.Bool.{true, false, ◌&&◌}
 use lib.ListN.{length}
 use lib.Dec.{eqb, ltb}
-use borrow.Author.Tests.{ltb-false, eqb-false, eq-eqb, ne_eqb}
+use borrow.Author.Tests.{ltb-false, eqb-false, eqb-true, not-false, eq-eqb, ne_eqb}
 use Rattle.refusal.specs.Answer.{above, is_not}
-use Rattle.refusal.specs.declared.Check.TheVariants.{Passed}
-use Rattle.refusal.proofs.First.{passed_is, neither}
+use Rattle.refusal.proofs.First.{neither}
 use Rattle.pool_state.specs.declared.State.{State}
 use Rattle.pool_state.specs.State.{state_in, gone, never_sent, sent_too_much, impossible, no_state}
 use Rattle.pool_rooms.specs.Rooms.{rooms_size}
@@ -36,15 +35,15 @@ lent_is st rooms e =
     let s = neither (never_sent m) (sent_too_much m) r.1 in
     let t = (neither (eqb m.role 1 && eqb m.added m.taken) _ s.0).0 in
     record {
-      nine = passed_is 9 (length st) Passed (sym o.0) refl;
-      sized = passed_is rooms_size rooms Passed (sym n.1) refl;
+      nine = eqb-true (length st) 9 (not-false _ o.0);
+      sized = eqb-true rooms rooms_size (not-false _ n.1);
       counted = λ h. ltb-false 4294967295 (m.added + m.taken) (let u : is_not 4 m.role ≡ true = rw (ne_eqb m.role 4 h) refl in sym (rw u refl) ∙ s.1);
       begun = λ h. let other : m.added ≡ m.taken → ⊥ = eqb-false m.added m.taken (sym (rw (eq-eqb m.role 1 h) refl) ∙ t) in omega (arith, other, ltb-false m.added m.taken q.0);
     }
 
 pub lent_with : (size : ℕ) (st : List ℕ) (rooms part : ℕ) → not_lent_with size st rooms part ≡ false → Lent st rooms × (part ≡ size)
 unfolding not_lent_with
-lent_with size st rooms part e = let n = neither (not_lent st rooms) (is_not size part) e in (lent_is st rooms n.0, passed_is size part Passed (sym n.1) refl)
+lent_with size st rooms part e = let n = neither (not_lent st rooms) (is_not size part) e in (lent_is st rooms n.0, eqb-true part size (not-false _ n.1))
 
 pub record LentOut (st : List ℕ) (rooms number strip : ℕ) : Type 0 where
   pub master : Lent st rooms
@@ -56,4 +55,4 @@ unfolding not_lent_out
 lent_out_is st rooms number strip e =
     let n = neither (not_lent_with 4 st rooms number) (is_not 676 strip) e in
     let l = lent_with 4 st rooms number n.0 in
-    record { master = l.0; four = l.1; room = passed_is 676 strip Passed (sym n.1) refl }
+    record { master = l.0; four = l.1; room = eqb-true strip 676 (not-false _ n.1) }

@@ -1,100 +1,91 @@
 // What a master's state decides by itself: refusals of its calls, its role once it sends, and which acknowledgement counts.
-#![tactic(auto)]
+#![tactic(auto, unfolding(refusal::specs::Answer::first, pool_state::specs::State::full, crate::specs::Master::waiting, crate::specs::Master::used_up, crate::specs::Master::no_room, crate::specs::Master::none_held, crate::specs::Master::is_standby, crate::specs::Master::sending, crate::specs::Master::counts))]
 
-ghost use Rattle.std.specs.Prelude.{◌≡◌, [], ◌∷◌};
-ghost use Rattle.refusal.specs.Refusal.{failed};
-ghost use Rattle.refusal.specs.Answer.{done, refused, first, outcome};
+ghost use Rattle.std.specs.Prelude.{◌≡◌, [], ◌∷◌, Ok, Err};
+ghost use Rattle.refusal.specs.Refusal.{refusal};
+ghost use Rattle.refusal.specs.Answer.{refused_if, first};
 ghost use Rattle.pool_master.specs.Master.{waiting, used_up, no_room, none_held, is_standby, sending, counts};
 
-use pool_state::State;
-use refusal::{Check, Outcome};
+use pool_state::{Role, State};
+use refusal::Refusal;
 
-pub fn check_not_standby(master: State) -> Check
-    ensures { failed result ≡ is_standby master }
+// 6, to a standby.
+pub fn check_not_standby(master: State) -> Result<(), Refusal>
+    ensures { result ≡ refused_if (refusal 6) (is_standby master) }
 {
-    if master.role == 3 {
-        return Check::Failed;
+    if master.is(Role::Standby) {
+        return Err(Refusal::NotLent);
     }
-    Check::Passed
+    Ok(())
+}
+
+fn is_waiting(master: State) -> bool
+    ensures { result ≡ waiting master }
+{
+    master.is(Role::Adding) || master.is(Role::Taking)
 }
 
 // 23
-fn check_waiting(master: State) -> Check
-    ensures { failed result ≡ waiting master }
+fn check_waiting(master: State) -> Result<(), Refusal>
+    ensures { result ≡ refused_if (refusal 23) (waiting master) }
 {
-    if master.role == 1 {
-        return Check::Failed;
+    if is_waiting(master) {
+        return Err(Refusal::Waiting);
     }
-    if master.role == 2 {
-        return Check::Failed;
-    }
-    Check::Passed
+    Ok(())
 }
 
-// 24
-fn check_numbers(master: State) -> Check
-    ensures { failed result ≡ used_up master }
+// 24: alone it falls away.
+fn check_numbers(master: State) -> Result<(), Refusal>
+    ensures { result ≡ refused_if (refusal 24) (used_up master) }
 {
-    if master.role == 4 {
-        return Check::Passed;
+    if !master.is(Role::Alone) && u64::from(u32::MAX) <= master.sent() {
+        return Err(Refusal::UsedUp);
     }
-    if 4294967295 <= pool_state::sent(master) {
-        return Check::Failed;
-    }
-    Check::Passed
+    Ok(())
 }
 
 // 14
-pub fn check_room(master: State) -> Check
-    ensures { failed result ≡ no_room master }
+pub fn check_room(master: State) -> Result<(), Refusal>
+    ensures { result ≡ refused_if (refusal 14) (no_room master) }
 {
-    if pool_state::wide(master.taken) + 64 <= pool_state::wide(master.added) {
-        return Check::Failed;
+    if master.is_full() || master.added == u32::MAX {
+        return Err(Refusal::NoRoom);
     }
-    if master.added == 4294967295 {
-        return Check::Failed;
-    }
-    Check::Passed
+    Ok(())
 }
 
 // 15
-pub fn check_held(master: State) -> Check
-    ensures { failed result ≡ none_held master }
+pub fn check_held(master: State) -> Result<(), Refusal>
+    ensures { result ≡ refused_if (refusal 15) (none_held master) }
 {
     if master.added <= master.taken {
-        return Check::Failed;
+        return Err(Refusal::NoneHeld);
     }
-    Check::Passed
+    Ok(())
 }
 
 // Whether another message may be sent: 23, 24.
-pub fn check_sending(master: State) -> Outcome
-    ensures { outcome result ≡ first ((23, waiting master) ∷ (24, used_up master) ∷ []) refused (done tt) }
+pub fn check_sending(master: State) -> Result<(), Refusal>
+    ensures { result ≡ first ((23, waiting master) ∷ (24, used_up master) ∷ []) Err (Ok tt) }
 {
-    let Check::Passed = check_waiting(master) else {
-        return refusal::pool(23);
-    };
-    let Check::Passed = check_numbers(master) else {
-        return refusal::pool(24);
-    };
-    Outcome::Done
+    check_waiting(master)?;
+    check_numbers(master)
 }
 
 // The role of a master that sends a message of this kind; alone, none is sent.
+// The kind is any byte, since this is a public call that took any.
 pub fn role_sending(master: State, kind: u8) -> u8
     ensures { result ≡ sending master kind }
 {
-    if master.role != 4 {
-        return kind;
+    if master.is(Role::Alone) {
+        return Role::Alone as u8;
     }
-    4
+    kind
 }
 
 pub fn counted(master: State, sequence: u32) -> bool
     ensures { result ≡ counts master sequence }
 {
-    let Check::Failed = check_waiting(master) else {
-        return false;
-    };
-    pool_state::wide(sequence) == pool_state::sent(master)
+    is_waiting(master) && u64::from(sequence) == master.sent()
 }

@@ -1,10 +1,10 @@
 -- Messages between the masters as bytes: how each is written, and what is read from any bytes.
-use Rattle.std.specs.Prelude.{ℕ, ◌+◌, ◌/◌, ◌%◌, List, ◌∷◌, ◌++◌, Bool, cond, ◌&&◌, ◌||◌, length, get_or, eqb, leb}
+use Rattle.std.specs.Prelude.{ℕ, ◌+◌, ◌/◌, ◌%◌, List, ◌∷◌, ◌++◌, Bool, cond, ◌&&◌, ◌||◌, length, get_or, eqb, leb, Option, Some, None}
 use Rattle.refusal.specs.Answer.{is_not}
 use Rattle.strip.specs.Strip.{bad_framing}
 use Rattle.pool_numbers.specs.Numbers.{number_bytes, number_at}
 use Rattle.pool_message.specs.declared.Message.{Message}
-use Rattle.pool_message.specs.declared.Message.TheVariants.{Adds, Takes, Acknowledges, Unreadable}
+use Rattle.pool_message.specs.declared.Message.TheVariants.{Adds, Takes, Acknowledges}
 
 -- two bytes of length, big-endian, counting all that follows; version 1; kind 1, 2 or 3; the sequence number
 unfoldable pub front_bytes : ℕ → ℕ → ℕ → List ℕ
@@ -29,16 +29,16 @@ unfoldable pub is_of : ℕ → Bool → List ℕ → Bool
 is_of kind sized m = eqb (get_or m 3 0) kind && sized
 
 -- what is read from any bytes; the strip of an addition is all from its thirteenth byte on
-unfoldable pub read_of : List ℕ → Message
+unfoldable pub read_of : List ℕ → Option Message
 read_of m =
-    cond (misframed m) Unreadable
-    (cond (is_of 1 (leb 12 (length m)) m) (Adds (number_at m 4) (number_at m 8))
-    (cond (is_of 2 (eqb (length m) 12) m) (Takes (number_at m 4) (number_at m 8))
-    (cond (is_of 3 (eqb (length m) 8) m) (Acknowledges (number_at m 4)) Unreadable)))
+    cond (misframed m) None
+    (cond (is_of 1 (leb 12 (length m)) m) (Some (Adds (number_at m 4) (number_at m 8)))
+    (cond (is_of 2 (eqb (length m) 12) m) (Some (Takes (number_at m 4) (number_at m 8)))
+    (cond (is_of 3 (eqb (length m) 8) m) (Some (Acknowledges (number_at m 4))) None)))
 
 -- the sequence number of a message, or of the one acknowledged; 0 where it is none
-abbrev pub sequence : Message → ℕ
-sequence (Adds k n) = k
-sequence (Takes k n) = k
-sequence (Acknowledges k) = k
-sequence Unreadable = 0
+abbrev pub sequence : Option Message → ℕ
+sequence (Some (Adds k n)) = k
+sequence (Some (Takes k n)) = k
+sequence (Some (Acknowledges k)) = k
+sequence None = 0

@@ -1,96 +1,83 @@
 // Messages between the masters as bytes.
-#![tactic(auto)]
+#![tactic(auto, unfolding(pool_numbers::specs::Numbers::number_bytes, crate::specs::Message::front_bytes, crate::specs::Message::acknowledgement, crate::specs::Message::misframed, crate::specs::Message::is_of, crate::specs::Message::read_of, strip::specs::Strip::bad_framing, refusal::specs::Answer::first))]
 
-ghost use Rattle.std.specs.Prelude.{◌≡◌};
-ghost use Rattle.refusal.specs.Refusal.{failed};
+ghost use Rattle.std.specs.Prelude.{◌≡◌, not, Some};
 ghost use Rattle.pool_message.specs.Message.{front_bytes, acknowledgement, misframed, read_of, sequence};
 
-use refusal::Check;
+// The kinds of messages, under the numbers of the rules, to which `as` goes; a pattern cannot name a cast, so `read` has the numbers once more.
+#[derive(Clone, Copy, Debug, PartialEq, Eq, Hash)]
+pub enum Kind {
+    Addition = 1,
+    Taking = 2,
+    Acknowledgement = 3,
+}
 
 // What was sent: an addition and a taking with their sequence number and the strip's number, or an acknowledgement.
-#[derive(Clone, Copy)]
+#[derive(Clone, Copy, Debug, PartialEq, Eq, Hash)]
 pub enum Message {
     Adds(u32, u32),
     Takes(u32, u32),
     Acknowledges(u32),
-    Unreadable,
+}
+
+impl Message {
+    pub fn sequence(self) -> u32
+        ensures { result ≡ sequence (Some self) }
+    {
+        match self {
+            Message::Adds(sequence, _)
+            | Message::Takes(sequence, _)
+            | Message::Acknowledges(sequence) => sequence,
+        }
+    }
 }
 
 // The first eight bytes of every message; an acknowledgement has no more.
+// The kind is any byte, since this is a public call that took any.
 pub fn front_bytes(follows: u16, kind: u8, sequence: u32) -> [u8; 8]
     ensures { result ≡ front_bytes follows kind sequence }
 {
+    let length = follows.to_be_bytes();
     let number = pool_numbers::number_bytes(sequence);
     [
-        (follows / 256 % 256) as u8,
-        (follows % 256) as u8,
-        1,
-        kind,
-        number[0],
-        number[1],
-        number[2],
-        number[3],
+        length[0], length[1], 1, kind, number[0], number[1], number[2], number[3],
     ]
 }
 
 pub fn acknowledgement_bytes(sequence: u32) -> [u8; 8]
     ensures { result ≡ acknowledgement sequence }
 {
-    front_bytes(6, 3, sequence)
+    front_bytes(6, Kind::Acknowledgement as u8, sequence)
 }
 
-fn check_framing(part: &[u8]) -> Check
-    ensures { failed result ≡ misframed part.now }
+// Framed as a strip is, and of version 1.
+fn is_framed(part: &[u8]) -> bool
+    ensures { result ≡ not (misframed part.now) }
 {
-    let Check::Passed = strip::check_framing(part) else {
-        return Check::Failed;
-    };
-    refusal::check_length(part[2] as usize, 1)
+    strip::check_framing(part).is_ok() && part[2] == 1
 }
 
-// Any bytes are read; what is no message is Unreadable.
-pub fn read(part: &[u8]) -> Message
+// Any bytes are read; what is no message is none.
+pub fn read(part: &[u8]) -> Option<Message>
     ensures { result ≡ read_of part.now }
 {
-    let Check::Passed = check_framing(part) else {
-        return Message::Unreadable;
-    };
+    if !is_framed(part) {
+        return None;
+    }
     let size = part.len();
-    if part[3] == 1 {
-        if size < 12 {
-            return Message::Unreadable;
-        }
-        return Message::Adds(
-            pool_numbers::number_at(part, 4),
-            pool_numbers::number_at(part, 8),
-        );
+    let sequence = pool_numbers::number_at(part, 4);
+    let number = pool_numbers::number_at(part, 8);
+    match part[3] {
+        1 if 12 <= size => Some(Message::Adds(sequence, number)),
+        2 if size == 12 => Some(Message::Takes(sequence, number)),
+        3 if size == 8 => Some(Message::Acknowledges(sequence)),
+        _ => None,
     }
-    if part[3] == 2 {
-        if size != 12 {
-            return Message::Unreadable;
-        }
-        return Message::Takes(
-            pool_numbers::number_at(part, 4),
-            pool_numbers::number_at(part, 8),
-        );
-    }
-    if part[3] == 3 {
-        if size != 8 {
-            return Message::Unreadable;
-        }
-        return Message::Acknowledges(pool_numbers::number_at(part, 4));
-    }
-    Message::Unreadable
 }
 
-// The sequence number, 0 where it is none.
-pub fn sequence_of(asked: Message) -> u32
+// The sequence number, 0 where there is no message.
+pub fn sequence_of(asked: Option<Message>) -> u32
     ensures { result ≡ sequence asked }
 {
-    match asked {
-        Message::Adds(sequence, _) => sequence,
-        Message::Takes(sequence, _) => sequence,
-        Message::Acknowledges(sequence) => sequence,
-        Message::Unreadable => 0,
-    }
+    asked.map_or(0, |message| message.sequence())
 }

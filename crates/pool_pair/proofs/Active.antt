@@ -8,7 +8,7 @@ use mathlib.Core.Bool.{Bool, true, false, cond, ◌&&◌, ◌||◌}
 use lib.ListN.{length, drop, replicate, length-take}
 use lib.Dec.{eqb, leb}
 use borrow.Author.Tests.{eqb-false, leb-false, ne_eqb}
-use Rattle.refusal.specs.Answer as answer
+use Rattle.std.specs.Prelude.{Ok, Some}
 use Rattle.refusal.specs.Answer.{first, passes}
 use Rattle.refusal.proofs.First.{neither, true_false, passes_first, passes_both}
 use Rattle.strip.specs.Strip.{own_checks}
@@ -143,7 +143,7 @@ module _ (c : Cabinet) (v : Active c) where
   take_follows =
       lent_follows (λ x. ((after_handing x).0, active_of (after_handing x).1)) (λ x. Active (after_handing x).1) _ (λ r. (mirror.refused r, a)) _ _ (λ r. (refl, v)) _ _ take_checks_law new where
         new : passes (waits ((15, mirror.none_held a.pool.held) ∷ [])) ≡ true
-            → Follows Active active_of (after_handing (answer.done tt, (state_bytes (one_taken m (sending m roles.taking)), cond (eqb m.role roles.alone) (handing c.rooms m.taken) (handing_none c.rooms (replicate 676 0)))))
+            → Follows Active active_of (after_handing (Ok tt, (state_bytes (one_taken m (sending m roles.taking)), cond (eqb m.role roles.alone) (handing c.rooms m.taken) (handing_none c.rooms (replicate 676 0)))))
             (mirror.done, record { pool = mirror.less a.pool; sent = suc a.sent; out = mirror.taking (mirror.lowest a.pool.held) })
         new e =
             let t = let_through _ e in
@@ -176,10 +176,10 @@ module _ (c : Cabinet) (v : Active c) where
     filled = rw (gone_is (with_role m roles.active) (λ x. omega arith)) f;
   }
 
-  settles : (strip : List ℕ) → master.waiting m ≡ true → Follows Active active_of (after_handing (answer.done tt, settle m c.rooms strip)) (mirror.settled a.out, quiet)
+  settles : (strip : List ℕ) → master.waiting m ≡ true → Follows Active active_of (after_handing (Ok tt, settle m c.rooms strip)) (mirror.settled a.out, quiet)
   unfolding master.waiting settle after_handing handing handing_none with_role gone active_in pool_in out_in
   settles strip w = go m.role refl v.sound.greatest where
-    go : (r : ℕ) → m.role ≡ r → r ≤ 2 → Follows Active active_of (after_handing (answer.done tt, settle m c.rooms strip)) (mirror.settled a.out, quiet)
+    go : (r : ℕ) → m.role ≡ r → r ≤ 2 → Follows Active active_of (after_handing (Ok tt, settle m c.rooms strip)) (mirror.settled a.out, quiet)
     go zero e h = let z : false ≡ true = rw e at w in absurd (true_false (sym z))
     go (suc zero) e h =
         let u = settled_sound c.rooms (rw (gone_is m (λ x. omega arith)) at v.sound.filled) in
@@ -194,11 +194,11 @@ module _ (c : Cabinet) (v : Active c) where
         (ap (λ (x : mirror.Active). (mirror.handed (m.taken, strip_in (room_at c.rooms (m.taken - 1))), x)) (rw (sound_back u) same), kept_new u)
     go (suc (suc (suc r))) e h = absurd (omega arith)
 
-  pub acknowledge_follows : (bytes : List ℕ) (k : ℕ) → read_of bytes ≡ Acknowledges k → Follows Active active_of (acknowledge bytes c) (mirror.acknowledge k a)
+  pub acknowledge_follows : (bytes : List ℕ) (k : ℕ) → read_of bytes ≡ Some (Acknowledges k) → Follows Active active_of (acknowledge bytes c) (mirror.acknowledge k a)
   unfolding acknowledge acknowledge_of after_handing handing_none counts first mirror.acknowledge active_in
   acknowledge_follows bytes k e = rw (lent_out v (omega arith), e) (go (master.waiting m) (eqb k (sent m)) refl) where
     go : (w t : Bool) → master.waiting m ≡ w
-        → Follows Active active_of (after_handing (answer.done tt, cond (w && t) (settle m c.rooms (replicate 676 0)) (c.state, handing_none c.rooms (replicate 676 0)))) (cond t (mirror.settled a.out, quiet) (mirror.done, a))
+        → Follows Active active_of (after_handing (Ok tt, cond (w && t) (settle m c.rooms (replicate 676 0)) (c.state, handing_none c.rooms (replicate 676 0)))) (cond t (mirror.settled a.out, quiet) (mirror.done, a))
     go true true e = settles (replicate 676 0) e
     go true false e = (rw (none_handed (replicate 676 0)) refl, v)
     go false true e = rw (nothing_out e, none_handed (replicate 676 0)) (refl, v)

@@ -10,7 +10,7 @@ use lib.ListN.{length, replicate}
 use lib.Dec.{eqb}
 use borrow.Author.Tests.{le-ltb, eq-eqb}
 use Rattle.refusal.specs.Refusal.{refusal}
-use Rattle.refusal.specs.Answer as answer
+use Rattle.std.specs.Prelude.{Ok}
 use Rattle.refusal.specs.Answer.{Answer, first, passes}
 use Rattle.strip.specs.Strip.{own_checks}
 use Rattle.pool_mirror.specs.Mirror as mirror
@@ -140,7 +140,7 @@ module _ (c : Cabinet) (l o : Strips) (v : Standby (length l + length o) c) wher
     add_alone_follows s =
         lent_follows (λ y. ((after_add y).0, pool_of (after_add y).1)) Added _ (λ r. (mirror.refused r, pool_of c)) _ _ (λ r. (refl, λ x. unchanged)) _ _ (add_checks_law s) new where
           new : passes (own_checks s ++ ((14, mirror.no_room (pool_of c)) ∷ [])) ≡ true
-              → let y : Answer (Unit {0}) × (List ℕ × List ℕ) = (answer.done tt, (state_bytes (one_more m (sending m roles.adding)), filled c.rooms m.added s)) in
+              → let y : Answer (Unit {0}) × (List ℕ × List ℕ) = (Ok tt, (state_bytes (one_more m (sending m roles.adding)), filled c.rooms m.added s)) in
               (◌≡◌ {A = Said × mirror.Pool} ((after_add y).0, pool_of (after_add y).1) (mirror.done, mirror.put s (pool_of c))) × Added y
           new e =
               let p = passes_both (own_checks s) ((14, mirror.no_room (pool_of c)) ∷ []) e in
@@ -159,7 +159,7 @@ module _ (c : Cabinet) (l o : Strips) (v : Standby (length l + length o) c) wher
         lent_follows (λ y. ((after_handing y).0, pool_of (after_handing y).1)) Taken _ (λ r. (mirror.refused r, pool_of c)) _ _ (λ r. (refl, unchanged)) _ _ take_checks_law (new (replicate 676 0)) where
           new : (strip : List ℕ) → passes ((15, mirror.none_held (pool_of c).held) ∷ []) ≡ true
               → let y : Answer (Unit {0}) × (List ℕ × (List ℕ × (List ℕ × List ℕ))) =
-              (answer.done tt, (state_bytes (one_taken m (sending m roles.taking)), cond (eqb m.role roles.alone) (handing c.rooms m.taken) (handing_none c.rooms strip))) in
+              (Ok tt, (state_bytes (one_taken m (sending m roles.taking)), cond (eqb m.role roles.alone) (handing c.rooms m.taken) (handing_none c.rooms strip))) in
               (◌≡◌ {A = Said × mirror.Pool} ((after_handing y).0, pool_of (after_handing y).1) (mirror.handed (mirror.lowest (pool_of c).held), mirror.less (pool_of c))) × Taken y
           new strip e =
               let some = some_held m c.rooms (same_none m c.rooms ∙ (passes_first 15 (mirror.none_held (pool_of c).held) [] e).0) in

@@ -8,10 +8,10 @@ use mathlib.Core.Bool.{true, false}
 use lib.ListN.{length, get_or, drop, replicate, get_or-append}
 use lib.Seq.{take_at}
 use lib.Dec.{ltb}
-use borrow.Author.Tests.{le-ltb, eq-eqb, ne_eqb}
+use borrow.Author.Tests.{le-ltb, eq-eqb, ne_eqb, eqb-true, not-false}
 use Rattle.refusal.specs.Answer.{is_not, passes}
-use Rattle.refusal.specs.declared.Check.TheVariants.{Passed}
-use Rattle.refusal.proofs.First.{passed_is, neither, passes_first}
+use Rattle.std.specs.Prelude.{Some}
+use Rattle.refusal.proofs.First.{neither, passes_first}
 use Rattle.strip.specs.Strip.{length_field, bad_framing, own_checks}
 use Rattle.strip.proofs.Good.{unspoilt, own_short}
 use Rattle.pool_numbers.specs.Numbers.{number_bytes, number_at}
@@ -83,12 +83,12 @@ module _ (k n : ℕ) (s : List ℕ) where
   addition_strip = refl
 
 module _ (k : ℕ) (h : k ≤ most) where
-  pub acknowledgement_back : read_of (acknowledgement k) ≡ Acknowledges k
+  pub acknowledgement_back : read_of (acknowledgement k) ≡ Some (Acknowledges k)
   unfolding read_of misframed bad_framing is_of acknowledgement front_bytes number_at number_bytes
-  acknowledgement_back = ap Acknowledges (joined k h)
+  acknowledgement_back = ap (λ (n : ℕ). Some (Acknowledges n)) (joined k h)
 
   module _ (n : ℕ) (i : n ≤ most) where
-    pub taking_back : read_of (taking k n) ≡ Takes k n
+    pub taking_back : read_of (taking k n) ≡ Some (Takes k n)
     unfolding read_of misframed bad_framing is_of taking front_bytes number_at number_bytes
     taking_back = rw (joined k h, joined n i) refl
 
@@ -111,9 +111,9 @@ module _ (k : ℕ) (h : k ≤ most) where
         version : is_not 1 (get_or (addition k n s) 2 0) ≡ false
         version = rw (addition_version k n s) refl
 
-      pub addition_back : read_of (addition k n s) ≡ Adds k n
+      pub addition_back : read_of (addition k n s) ≡ Some (Adds k n)
       addition_back =
-          sym (adds (addition k n s) Passed (sym framed) refl k n (addition_kind k n s) (omega (arith, addition_length)) (sym (addition_sequence k n s h)) (sym (addition_number k n s i)))
+          sym (adds (addition k n s) k n framed (addition_kind k n s) (omega (arith, addition_length)) (sym (addition_sequence k n s h)) (sym (addition_number k n s i)))
 
       -- padded, as many bytes as the field says are the message
       pub addition_sent : sent_in (padded 688 (addition k n s)) ≡ addition k n s ∷ []
@@ -135,7 +135,7 @@ unfolding bad_framing
 own_good s e =
     let p7 = passes_first 7 (bad_framing s) _ e in
     let long : 4 ≤ length s = unspoilt s p7.0 in
-    let field : length_field s ≡ length s - 2 = passed_is (length s - 2) (length_field s) Passed (sym (neither (ltb (length s) 4) _ p7.0).1) refl in
+    let field : length_field s ≡ length s - 2 = eqb-true (length_field s) (length s - 2) (not-false _ (neither (ltb (length s) 4) _ p7.0).1) in
     record { long = long; short = own_short s e; framed = omega arith }
 
 -- and it is read back from its room

@@ -8,13 +8,14 @@ use mathlib.Core.Bool.{Bool, true, false, ◌&&◌}
 use lib.ListN.{length, replicate}
 use lib.Dec.{eqb, leb}
 use borrow.Author.Tests.{eqb-true, eqb-false, leb-false, le-ltb, le-leb, lt-leb, ne_eqb, not-true, eq-eqb}
+use Rattle.std.specs.Prelude.{Option, Some, None}
 use Rattle.refusal.specs.declared.Refusal.{Refusal}
 use Rattle.refusal.specs.Answer.{first, is_not, above, passes}
 use Rattle.refusal.proofs.First.{clash, neither}
 use Rattle.pool_numbers.specs.Numbers.{number_bytes, number_at}
 use Rattle.pool_message.specs.Message.{read_of}
 use Rattle.pool_message.specs.declared.Message.{Message}
-use Rattle.pool_message.specs.declared.Message.TheVariants.{Adds, Takes, Acknowledges, Unreadable}
+use Rattle.pool_message.specs.declared.Message.TheVariants.{Adds, Takes, Acknowledges}
 use Rattle.pool_mirror.specs.Mirror as mirror
 use Rattle.pool_mirror.specs.Mirror.{most, Said, Checks}
 use Rattle.pool_state.specs.declared.State.{State}
@@ -96,11 +97,11 @@ module _ {low high : ℕ} {c : Cabinet} (v : Kept low high c) (h : high ≤ role
   pub acknowledge_none : (bytes : List ℕ) → number_in (read_of bytes) ≡ [] → acknowledge bytes c ≡ refused16 c
   unfolding acknowledge acknowledge_of after_handing first
   acknowledge_none bytes e = rw (lent_out, none (read_of bytes) e) refl where
-    none : (r : Message) → number_in r ≡ [] → is_acknowledgement r ≡ false
-    none (Adds k n) e = refl
-    none (Takes k n) e = refl
-    none (Acknowledges k) e = clash cc
-    none Unreadable e = refl
+    none : (r : Option Message) → number_in r ≡ [] → is_acknowledgement r ≡ false
+    none (Some (Adds k n)) e = refl
+    none (Some (Takes k n)) e = refl
+    none (Some (Acknowledges k)) e = clash cc
+    none None e = refl
 
   -- what is to be sent
   pub sent_is : outstanding c ≡ sent_in (padded 688 (message_of (state_in c.state) c.rooms))

@@ -8,7 +8,7 @@ use mathlib.Core.Bool.{Bool, cond}
 use lib.ListN.{length, replicate}
 use lib.Dec.{eqb}
 use borrow.Author.Tests.{eqb-true, eqb-false}
-use Rattle.refusal.specs.Answer as answer
+use Rattle.std.specs.Prelude.{Ok, Err, Some}
 use Rattle.refusal.specs.Answer.{Answer}
 use Rattle.strip.specs.Strip.{own_checks}
 use Rattle.pool_numbers.specs.Numbers.{number_at}
@@ -52,7 +52,7 @@ messages_at zero (bytes ∷ l) h = rw h.0.1.0 refl
 messages_at (suc k) (bytes ∷ l) h = rw h.0.1.0 (messages_at k l h.1)
 
 -- and its way back for as many numbers
-number_is : (bytes : List ℕ) (k : ℕ) → bytes ≡ acknowledgement k → k ≤ most → read_of bytes ≡ Acknowledges k
+number_is : (bytes : List ℕ) (k : ℕ) → bytes ≡ acknowledgement k → k ≤ most → read_of bytes ≡ Some (Acknowledges k)
 number_is bytes k e h = rw e (acknowledgement_back k h)
 
 numbers_at : (k : ℕ) (l : List (List ℕ)) → Acknowledgements l → at k (numbers_in l) ≡ numbers_in (at k l)
@@ -66,8 +66,8 @@ none_handed_out : (s : List ℕ) (c : Cabinet) (l : Strips) → mirror.note_hand
 unfolding add after_add
 none_handed_out s c l = go (add_of c.state c.rooms s).0 where
   go : (x : Answer (Unit {0})) → mirror.note_handed (told x mirror.done) l ≡ l
-  go (answer.done x) = refl
-  go (answer.refused r) = refl
+  go (Ok x) = refl
+  go (Err r) = refl
 
 -- ---- each event
 abbrev pub Lifts : Cabinets → mirror.World → Type 0
@@ -89,7 +89,7 @@ module _ (c : Cabinets) (v : Runs c) where
       let f = take_follows c.active v.near in
       (ap (mirror.with_active w) f.0, record { near = f.1; far = v.far; link = v.link; back = v.back })
 
-  lifts_acknowledge : (bytes : List ℕ) (k : ℕ) → read_of bytes ≡ Acknowledges k → Lifts (with_active c (acknowledge bytes c.active)) (mirror.with_active w (mirror.acknowledge k w.active))
+  lifts_acknowledge : (bytes : List ℕ) (k : ℕ) → read_of bytes ≡ Some (Acknowledges k) → Lifts (with_active c (acknowledge bytes c.active)) (mirror.with_active w (mirror.acknowledge k w.active))
   unfolding with_active mirror.with_active stands_for
   lifts_acknowledge bytes k e =
       let f = acknowledge_follows c.active v.near bytes k e in

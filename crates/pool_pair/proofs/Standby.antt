@@ -9,13 +9,13 @@ use lib.ListN.{length, drop, replicate}
 use lib.Dec.{eqb, ltb, leb}
 use borrow.Author.Tests.{eqb-true, eqb-false, leb-false, ltb-true, ltb-false, le-ltb, lt-ltb, le-leb, lt-leb, eq-eqb, ne_eqb, not-false}
 use Rattle.refusal.specs.declared.Refusal.{Refusal}
-use Rattle.refusal.specs.Answer as answer
+use Rattle.std.specs.Prelude.{Ok, Err, Option, Some, None}
 use Rattle.refusal.specs.Answer.{Answer, first, is_not, passes}
 use Rattle.refusal.proofs.First.{clash, neither, both_true, true_false, passes_first}
 use Rattle.strip.specs.Strip.{own_checks}
 use Rattle.pool_message.specs.Message.{acknowledgement, read_of, sequence}
 use Rattle.pool_message.specs.declared.Message.{Message}
-use Rattle.pool_message.specs.declared.Message.TheVariants.{Adds, Takes, Acknowledges, Unreadable}
+use Rattle.pool_message.specs.declared.Message.TheVariants.{Adds, Takes, Acknowledges}
 use Rattle.pool_mirror.specs.Mirror as mirror
 use Rattle.pool_mirror.specs.Mirror.{most, Said, Checks}
 use Rattle.pool_state.specs.declared.State.{State}
@@ -71,18 +71,18 @@ record Applied (m : State) (before : List ℕ) (x : mirror.Message) (new : List 
   next : sent state ≡ suc (sent m)
 
 -- what is read from bytes is this message of the system
-record Reads (m : State) (rooms s : List ℕ) (r : Message) (x : mirror.Message) : Type 0 where
+record Reads (m : State) (rooms s : List ℕ) (r : Option Message) (x : mirror.Message) : Type 0 where
   message : is_message r ≡ true
   numbered : sequence r ≡ mirror.sequence x
   fitting : fitted.fits m r s ≡ mirror.fits own_checks (pool_in m rooms) x
   applying : Filled m.taken m.added rooms → m.added + m.taken < most → fitted.fits m r s ≡ true → Applied m rooms x (calls.applied m r s rooms)
 
 module _ (m : State) (rooms s : List ℕ) where
-  adds_fit : (k n : ℕ) → fitted.fits m (Adds k n) s ≡ mirror.fits own_checks (pool_in m rooms) (mirror.adds k n s)
+  adds_fit : (k n : ℕ) → fitted.fits m (Some (Adds k n)) s ≡ mirror.fits own_checks (pool_in m rooms) (mirror.adds k n s)
   unfolding fitted.fits mirror.fits passes pool_in
   adds_fit k n = rw (held_length rooms m.taken (m.added - m.taken), below (m.added - m.taken)) refl
 
-  takes_fit : (k n : ℕ) → fitted.fits m (Takes k n) s ≡ mirror.fits own_checks (pool_in m rooms) (mirror.takes k n)
+  takes_fit : (k n : ℕ) → fitted.fits m (Some (Takes k n)) s ≡ mirror.fits own_checks (pool_in m rooms) (mirror.takes k n)
   unfolding fitted.fits mirror.fits pool_in held_in
   takes_fit k n = go (m.added - m.taken) refl where
     go : (count : ℕ) → m.added - m.taken ≡ count → (ltb m.taken m.added && eqb n (suc m.taken)) ≡ mirror.lowest_is n (held_in rooms m.taken count)
@@ -90,7 +90,7 @@ module _ (m : State) (rooms s : List ℕ) where
     go (suc count) e = rw (lt-ltb m.taken m.added (omega arith)) refl
 
   module _ (f : Filled m.taken m.added rooms) (small : m.added + m.taken < most) where
-    adds_applied : (k n : ℕ) → fitted.fits m (Adds k n) s ≡ true → Applied m rooms (mirror.adds k n s) (calls.applied m (Adds k n) s rooms)
+    adds_applied : (k n : ℕ) → fitted.fits m (Some (Adds k n)) s ≡ true → Applied m rooms (mirror.adds k n s) (calls.applied m (Some (Adds k n)) s rooms)
     unfolding fitted.fits calls.applied mirror.apply_to one_more passes
     adds_applied k n e =
         let p = both_true (passes (own_checks s)) _ e in
@@ -107,7 +107,7 @@ module _ (m : State) (rooms s : List ℕ) where
           next = omega arith;
         }
 
-    takes_applied : (k n : ℕ) → fitted.fits m (Takes k n) s ≡ true → Applied m rooms (mirror.takes k n) (calls.applied m (Takes k n) s rooms)
+    takes_applied : (k n : ℕ) → fitted.fits m (Some (Takes k n)) s ≡ true → Applied m rooms (mirror.takes k n) (calls.applied m (Some (Takes k n)) s rooms)
     unfolding fitted.fits calls.applied mirror.apply_to one_taken
     takes_applied k n e =
         let some : m.taken < m.added = ltb-true m.taken m.added (both_true (ltb m.taken m.added) _ e).0 in
@@ -121,15 +121,15 @@ module _ (m : State) (rooms s : List ℕ) where
           next = omega arith;
         }
 
-  reads : (r : Message) (x : mirror.Message) → message_in r s ≡ x ∷ [] → Reads m rooms s r x
-  reads (Adds k n) x e =
+  reads : (r : Option Message) (x : mirror.Message) → message_in r s ≡ x ∷ [] → Reads m rooms s r x
+  reads (Some (Adds k n)) x e =
       let q : mirror.adds k n s ≡ x = cc in
-      subst (Reads m rooms s (Adds k n)) q (record { message = refl; numbered = refl; fitting = adds_fit k n; applying = λ f small. adds_applied f small k n })
-  reads (Takes k n) x e =
+      subst (Reads m rooms s (Some (Adds k n))) q (record { message = refl; numbered = refl; fitting = adds_fit k n; applying = λ f small. adds_applied f small k n })
+  reads (Some (Takes k n)) x e =
       let q : mirror.takes k n ≡ x = cc in
-      subst (Reads m rooms s (Takes k n)) q (record { message = refl; numbered = refl; fitting = takes_fit k n; applying = λ f small. takes_applied f small k n })
-  reads (Acknowledges k) x e = clash cc
-  reads Unreadable x e = clash cc
+      subst (Reads m rooms s (Some (Takes k n))) q (record { message = refl; numbered = refl; fitting = takes_fit k n; applying = λ f small. takes_applied f small k n })
+  reads (Some (Acknowledges k)) x e = clash cc
+  reads None x e = clash cc
 
 standby_is : {p p' : mirror.Pool} {n n' : ℕ} {t t' : Bool} → p ≡ p' → n ≡ n' → t ≡ t' → ◌≡◌ {A = mirror.Standby} (record { pool = p; applied = n; alone = t }) (record { pool = p'; applied = n'; alone = t' })
 standby_is e f g = cc
@@ -156,12 +156,12 @@ module _ (c : Cabinet) (n : ℕ) (v : Standby n c) where
   apply_checks_law bytes t e = rw (lent_with v.kept (omega arith) 8, e) refl
 
   -- a refusal leaves all as it was
-  unheard : (r : Refusal) → Hears (answer.refused r, (c.state, (c.rooms, replicate 8 0))) (mirror.refused r, b)
+  unheard : (r : Refusal) → Hears (Err r, (c.state, (c.rooms, replicate 8 0))) (mirror.refused r, b)
   unfolding after_apply sent_back
   unheard r = (refl, record { still = v; noted = λ l. refl; back = tt })
 
   module _ (bytes : List ℕ) (x : mirror.Message) (means : Means bytes x) where
-    abbrev r : Message
+    abbrev r : Option Message
     r = read_of bytes
 
     abbrev s : List ℕ
@@ -185,10 +185,10 @@ module _ (c : Cabinet) (n : ℕ) (v : Standby n c) where
           rw e refl
 
     -- the acknowledgement that goes back
-    acknowledges : read_of (acknowledgement (mirror.sequence x)) ≡ Acknowledges (mirror.sequence x)
+    acknowledges : read_of (acknowledgement (mirror.sequence x)) ≡ Some (Acknowledges (mirror.sequence x))
     acknowledges = acknowledgement_back (mirror.sequence x) means.1
 
-    heard : (state rooms : List ℕ) → Standby n (record { state = state; rooms = rooms }) → Heard (answer.done tt, (state, (rooms, acknowledgement (mirror.sequence x))))
+    heard : (state rooms : List ℕ) → Standby n (record { state = state; rooms = rooms }) → Heard (Ok tt, (state, (rooms, acknowledgement (mirror.sequence x))))
     unfolding after_apply sent_back numbers_in
     heard state rooms u = record {
       still = u;
@@ -210,12 +210,12 @@ module _ (c : Cabinet) (n : ℕ) (v : Standby n c) where
     abbrev after : mirror.Standby
     after = record { pool = mirror.apply_to x b.pool; applied = mirror.sequence x; alone = b.alone }
 
-    hears_old : Hears (answer.done tt, (c.state, (c.rooms, acknowledgement (mirror.sequence x)))) (mirror.acknowledged (mirror.sequence x), b)
+    hears_old : Hears (Ok tt, (c.state, (c.rooms, acknowledgement (mirror.sequence x)))) (mirror.acknowledged (mirror.sequence x), b)
     unfolding after_apply
     hears_old = (rw acknowledges refl, heard c.state c.rooms v)
 
     hears_next : m.role ≡ roles.standby → mirror.sequence x ≡ suc (sent m) → (w : Applied m c.rooms x (calls.applied m r s c.rooms))
-        → let now : List ℕ × List ℕ = calls.applied m r s c.rooms in Hears (answer.done tt, (now.0, (now.1, acknowledgement (mirror.sequence x)))) (mirror.acknowledged (mirror.sequence x), after)
+        → let now : List ℕ × List ℕ = calls.applied m r s c.rooms in Hears (Ok tt, (now.0, (now.1, acknowledgement (mirror.sequence x)))) (mirror.acknowledged (mirror.sequence x), after)
     unfolding after_apply standby_in
     hears_next here i w =
         let z : n ≡ 0 = v.alone here in
@@ -238,7 +238,7 @@ module _ (c : Cabinet) (n : ℕ) (v : Standby n c) where
 
           go : (t : Bool) → leb (mirror.sequence x) (sent m) ≡ t → (m.role ≡ roles.standby) × (mirror.sequence x ≤ suc (sent m)) × (mirror.sequence x ≡ suc (sent m) → fitted.fits m r s ≡ true)
               → let now : List ℕ × List ℕ = cond t (c.state, c.rooms) (calls.applied m r s c.rooms) in
-              Hears (answer.done tt, (now.0, (now.1, acknowledgement (mirror.sequence x)))) (mirror.acknowledged (mirror.sequence x), cond t b after)
+              Hears (Ok tt, (now.0, (now.1, acknowledgement (mirror.sequence x)))) (mirror.acknowledged (mirror.sequence x), cond t b after)
           go true e t = hears_old
           go false e t =
               let i : mirror.sequence x ≡ suc (sent m) = omega (arith, leb-false (mirror.sequence x) (sent m) e) in
@@ -248,18 +248,18 @@ module _ (c : Cabinet) (n : ℕ) (v : Standby n c) where
   pub apply_none : (bytes : List ℕ) → message_in (read_of bytes) (drop 12 bytes) ≡ [] → apply bytes c ≡ refused16 c
   unfolding apply after_apply apply_of fitted.not_applied first
   apply_none bytes e = rw (lent_with v.kept (omega arith) 8, none (read_of bytes) e, either_true (is_not roles.standby m.role)) refl where
-    none : (r : Message) → message_in r (drop 12 bytes) ≡ [] → is_message r ≡ false
-    none (Adds k i) e = clash cc
-    none (Takes k i) e = clash cc
-    none (Acknowledges k) e = refl
-    none Unreadable e = refl
+    none : (r : Option Message) → message_in r (drop 12 bytes) ≡ [] → is_message r ≡ false
+    none (Some (Adds k i)) e = clash cc
+    none (Some (Takes k i)) e = clash cc
+    none (Some (Acknowledges k)) e = refl
+    none None e = refl
 
   -- ---- it has nothing outstanding, so that it sends nothing and no acknowledgement counts
   pub sends_nothing : outstanding c ≡ []
   unfolding message_of
   sends_nothing = rw (sent_is v.kept (omega arith), ne_eqb m.role roles.adding (λ e. omega (arith, v.kept.sound.least)), ne_eqb m.role roles.taking (λ e. omega (arith, v.kept.sound.least))) none_sent
 
-  pub acknowledge_idle : (bytes : List ℕ) (k : ℕ) → read_of bytes ≡ Acknowledges k → acknowledge bytes c ≡ (mirror.done, c)
+  pub acknowledge_idle : (bytes : List ℕ) (k : ℕ) → read_of bytes ≡ Some (Acknowledges k) → acknowledge bytes c ≡ (mirror.done, c)
   unfolding acknowledge acknowledge_of after_handing handing_none counts waiting first
   acknowledge_idle bytes k e =
       rw (lent_out v.kept (omega arith), e, ne_eqb m.role roles.adding (λ e. omega (arith, v.kept.sound.least)), ne_eqb m.role roles.taking (λ e. omega (arith, v.kept.sound.least)), none_handed (replicate 676 0)) refl

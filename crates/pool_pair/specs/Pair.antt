@@ -1,12 +1,11 @@
 -- Two cabinets, each with a master whose host makes the calls of a pool; a run of both with bytes on the link between them; and what such a run stands for in the mirrored system.
-use Rattle.std.specs.Prelude.{ℕ, zero, suc, ◌+◌, ◌-◌, List, [], ◌∷◌, ◌++◌, cond, length, take, drop, replicate, eqb}
-use Rattle.refusal.specs.Answer as answer
+use Rattle.std.specs.Prelude.{ℕ, zero, suc, ◌+◌, ◌-◌, List, [], ◌∷◌, ◌++◌, cond, length, take, drop, replicate, eqb, Option, Some, None, Ok, Err}
 use Rattle.refusal.specs.Answer.{Answer}
 use Rattle.strip.specs.Strip.{length_field}
 use Rattle.pool_numbers.specs.Numbers.{number_at}
 use Rattle.pool_message.specs.Message.{read_of}
 use Rattle.pool_message.specs.declared.Message.{Message}
-use Rattle.pool_message.specs.declared.Message.TheVariants.{Adds, Takes, Acknowledges, Unreadable}
+use Rattle.pool_message.specs.declared.Message.TheVariants.{Adds, Takes, Acknowledges}
 use Rattle.pool_mirror.specs.Mirror as mirror
 use Rattle.pool_mirror.specs.Mirror.{Strips, Said, Event, adds_strip, takes_strip, sends, arrives, answered, cuts, adds_alone, takes_alone, at}
 use Rattle.pool_state.specs.declared.State.{State}
@@ -26,18 +25,18 @@ pub record Cabinet : Type 0 where
 -- ---- the calls, on fresh buffers of the right length: what the host is told, and what it keeps from then on
 -- the refusal, or what a call that is done says
 abbrev pub told : Answer (Unit {0}) → Said → Said
-told (answer.done x) new = new
-told (answer.refused r) new = mirror.refused r
+told (Ok x) new = new
+told (Err r) new = mirror.refused r
 
 -- a strip was handed out where the number beside it is not 0
 unfoldable pub handed_in : List ℕ → List ℕ → Said
 handed_in number strip = cond (eqb (number_at number 0) 0) mirror.done (mirror.handed (number_at number 0, strip_in strip))
 
-abbrev pub acknowledged_in : Message → Said
-acknowledged_in (Adds k n) = mirror.done
-acknowledged_in (Takes k n) = mirror.done
-acknowledged_in (Acknowledges k) = mirror.acknowledged k
-acknowledged_in Unreadable = mirror.done
+abbrev pub acknowledged_in : Option Message → Said
+acknowledged_in (Some (Adds k n)) = mirror.done
+acknowledged_in (Some (Takes k n)) = mirror.done
+acknowledged_in (Some (Acknowledges k)) = mirror.acknowledged k
+acknowledged_in None = mirror.done
 
 unfoldable pub after_add : Answer (Unit {0}) × (List ℕ × List ℕ) → Said × Cabinet
 after_add (said, (state, rooms)) = (told said mirror.done, record { state = state; rooms = rooms })
@@ -79,8 +78,8 @@ outstanding c = sent_in (outstanding_of c.state c.rooms (replicate 688 0)).1
 
 -- the bytes that are sent back: the acknowledgement of a call that is done
 unfoldable pub sent_back : Answer (Unit {0}) × (List ℕ × (List ℕ × List ℕ)) → List (List ℕ)
-sent_back (answer.done x, (state, (rooms, acknowledgement))) = acknowledgement ∷ []
-sent_back (answer.refused r, (state, (rooms, acknowledgement))) = []
+sent_back (Ok x, (state, (rooms, acknowledgement))) = acknowledgement ∷ []
+sent_back (Err r, (state, (rooms, acknowledgement))) = []
 
 -- ---- both cabinets, every message and every acknowledgement ever sent, and what the hosts have seen: strips added with the numbers that they got, and strips handed out; all the latest first
 pub record Cabinets : Type 0 where
@@ -168,17 +167,17 @@ unfoldable pub standby_in : State → List ℕ → ℕ → mirror.Standby
 standby_in m rooms by_itself = record { pool = pool_in m rooms; applied = sent m - by_itself; alone = eqb m.role roles.alone }
 
 -- bytes that are no message stand for none
-abbrev pub message_in : Message → List ℕ → List mirror.Message
-message_in (Adds k n) s = mirror.adds k n s ∷ []
-message_in (Takes k n) s = mirror.takes k n ∷ []
-message_in (Acknowledges k) s = []
-message_in Unreadable s = []
+abbrev pub message_in : Option Message → List ℕ → List mirror.Message
+message_in (Some (Adds k n)) s = mirror.adds k n s ∷ []
+message_in (Some (Takes k n)) s = mirror.takes k n ∷ []
+message_in (Some (Acknowledges k)) s = []
+message_in None s = []
 
-abbrev pub number_in : Message → List ℕ
-number_in (Adds k n) = []
-number_in (Takes k n) = []
-number_in (Acknowledges k) = k ∷ []
-number_in Unreadable = []
+abbrev pub number_in : Option Message → List ℕ
+number_in (Some (Adds k n)) = []
+number_in (Some (Takes k n)) = []
+number_in (Some (Acknowledges k)) = k ∷ []
+number_in None = []
 
 unfoldable pub messages_in : List (List ℕ) → List mirror.Message
 messages_in [] = []

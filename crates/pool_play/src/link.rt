@@ -1,62 +1,51 @@
 // One direction of the link between the masters. It keeps the last 16 items ever sent, messages or acknowledgements, so that a script can lose them, repeat them and bring them late.
-ghost use Rattle.std.specs.Prelude.{◌+◌, ◌<◌, ◌≤◌};
+const KEPT: usize = 16;
 
-const KEPT: u32 = 16;
+// A message or an acknowledgement, with zeros behind it.
+#[derive(Clone, Copy)]
+pub struct Item {
+    pub bytes: [u8; 688],
+}
 
-#[derive(Drop)]
+impl Item {
+    pub const EMPTY: Item = Item { bytes: [0; 688] };
+
+    // The item without the zeros behind it, as its length field says; two bytes where there is none.
+    pub fn message(&self) -> &[u8] {
+        let behind = u16::from_be_bytes([self.bytes[0], self.bytes[1]]);
+        &self.bytes[..(usize::from(behind) + 2).min(688)]
+    }
+
+    pub fn sequence_number(&self) -> u32 {
+        u32::from_be_bytes([self.bytes[4], self.bytes[5], self.bytes[6], self.bytes[7]])
+    }
+}
+
+// The n-th item ever sent lies at place n modulo the number kept.
+#[derive(Clone, Copy)]
 pub struct Link {
-    pub items: [u8; 11008],
+    items: [Item; KEPT],
     pub sent: u32,
 }
 
-pub fn new() -> Link {
-    Link {
-        items: [0u8; 11008],
+impl Link {
+    pub const EMPTY: Link = Link {
+        items: [Item::EMPTY; KEPT],
         sent: 0,
+    };
+
+    // The next item is sent. There is no `From` from u32 to usize, and these casts are proved to lose nothing.
+    pub fn put(&mut self, item: Item) {
+        self.sent = self.sent.saturating_add(1);
+        self.items[self.sent as usize % KEPT] = item;
     }
-}
 
-// Whether the n-th item ever sent is still kept.
-pub fn keeps(n: u32, sent: u32) -> bool {
-    if n == 0 || n > sent {
-        return false;
+    // The n-th item ever sent; none where it was never sent, or is no longer kept.
+    pub fn get(&self, n: u32) -> Option<Item> {
+        let later = self.sent.checked_sub(n)?;
+        if n == 0 || later as usize >= KEPT {
+            return None;
+        }
+        Some(self.items[n as usize % KEPT])
     }
-    sent - n < KEPT
-}
-
-// Where the n-th item lies.
-fn start_of(n: u32) -> usize
-    ensures { result + 688 ≤ 11008 }
-{
-    688 * ((n % KEPT) as usize)
-}
-
-// The next item is sent.
-pub fn put(link: &mut Link, item: &[u8; 688]) {
-    if link.sent < 1000000000 {
-        link.sent += 1;
-    }
-    let start = start_of(link.sent);
-    link.items[start..start + 688].copy_from_slice(item);
-}
-
-pub fn get(link: &Link, n: u32) -> [u8; 688] {
-    let start = start_of(n);
-    let mut item = [0u8; 688];
-    item.copy_from_slice(&link.items[start..start + 688]);
-    item
-}
-
-fn wide(b: u8) -> usize
-    ensures { result < 256 }
-{
-    b as usize
-}
-
-// How many bytes an item has, as its length field says; 2 where there is no item.
-pub fn size_of(item: &[u8; 688]) -> usize
-    ensures { result ≤ 688 }
-{
-    let size = 256 * wide(item[0]) + wide(item[1]) + 2;
-    if size > 688 { 688 } else { size }
 }

@@ -8,75 +8,50 @@ mod report;
 mod steps;
 mod words;
 
-ghost use Rattle.std.specs.Prelude.{◌≤◌, ◌<◌, length};
-
-use std::env::Env;
-use std::fs::File;
 use std::io;
 use std::io::Read;
 use steps::Play;
-use words::Word;
 
-// A script has at most so many bytes.
-const SCRIPT: usize = 65536;
+// A script is at most one chunk long.
+const CHUNKS: usize = 1;
 
-// No path of the system is longer.
-const PATH: usize = 4096;
-
-// One step: it is done, and its line ends with what each master holds then.
-fn play_step(rt: &impl Print, play: &mut Play, word: Word, number: u32) -> io::Result<()> {
-    steps::step(rt, play, word, number)?;
-    report::holdings(rt, play.active.state, play.standby.state, play.power)
+// A line is a step, whose line of output ends with what each master holds then, or is said to be none.
+fn play_line(rt: &impl Print, play: &mut Play, number: usize, line: &str) -> io::Result<()> {
+    let Some(step) = words::read(line) else {
+        return println!(rt; "line {number} is no step");
+    };
+    print!(rt; "{number} {line}: ")?;
+    play.step(rt, step)?;
+    report::holdings(rt, play)
 }
 
-// A line is a step, or is said to be none.
-fn play_line(rt: &impl Print, play: &mut Play, line: &[u8], number: u32) -> io::Result<()> {
-    let step = words::read(line);
-    if let Word::Unknown = step.word {
-        return report::unknown(rt, number);
-    }
-    report::step(rt, number, line)?;
-    play_step(rt, play, step.word, step.number)
-}
-
-// Blank lines and comments are passed over.
-fn play_script(rt: &impl Print, text: &[u8]) -> io::Result<()> {
-    let mut play = steps::new();
-    let mut number: u32 = 0;
-    let mut start = 0;
-    while start < text.len() {
-        let end = start + words::find(&text[start..], b'\n');
-        let last = words::trimmed(&text[start..end]);
-        let line = &text[start..start + last];
-        start = end + 1;
-        number = steps::more(number);
-        if !words::skipped(line) {
-            play_line(rt, &mut play, line, number)?;
+// Blank lines and comments are passed over. The spaces and the carriage return at a line's end are no part of it.
+fn play_script(rt: &(impl Print + AllocGlobal), text: &str) -> io::Result<()> {
+    let mut play = Play::new(rt.alloc());
+    for (before, line) in text.split('\n').enumerate() {
+        let line = line.trim_end_matches([' ', '\t', '\r']);
+        if !reading::is_skipped(line.as_bytes()) {
+            play_line(rt, &mut play, before + 1, line)?;
         }
     }
-    report::summary(rt, play.tally.numbers, play.tally.twice)
+    report::summary(rt, &play.tally)
 }
 
-fn run(rt: &impl Print, file: &mut impl Read) -> io::Result<()> {
-    let mut script = [0u8; SCRIPT];
-    let n = reading::read_full(file, &mut script);
-    if reading::at_end(file) {
-        play_script(rt, &script[..n])
+fn unreadable(rt: &impl Print) -> io::Result<()> {
+    println!(rt; "the script cannot be read")
+}
+
+// A byte that is no text stands in no step, so another character may stand in its place.
+fn run(rt: &(impl Print + AllocGlobal), mut file: impl Read + Drop) -> io::Result<()> {
+    let script = reading::read_chunks(rt.alloc(), &mut file, CHUNKS)?;
+    if reading::at_end(&mut file) {
+        let text = String::from_utf8_lossy(rt.alloc(), script.as_slice())?;
+        play_script(rt, text.as_str())
     } else {
-        report::text(rt, "the script cannot be read\n")
+        unreadable(rt)
     }
 }
 
-// A name that is missing, too long for a path or no text is taken for the empty one, which no file has.
 fn main(rt: HostRuntime) -> io::Result<()> {
-    let mut name = [0u8; PATH];
-    let n = rt.arg(1, &mut name).unwrap_or(0);
-    let path = str::from_utf8(&name[..n]).unwrap_or("");
-    match File::open(&rt, path) {
-        Ok(mut file) => run(&rt, &mut file),
-        Err(error) => {
-            let _ = eprintln!(rt; "{path}: {error}");
-            report::text(&rt, "the script cannot be read\n")
-        }
-    }
+    reading::with_file(&rt, |file| run(&rt, file), || unreadable(&rt))
 }

@@ -1,147 +1,144 @@
 // The calls of the pool on one master, which each changes in place.
 ghost use Rattle.std.specs.Prelude.{◌≤◌};
 
-use crate::link;
+use crate::link::Item;
+use pool_state::{Role, State};
+use refusal::Refusal;
+use std::fmt;
 
-// A master's state and rooms, and what its last call gave: the refusal's number or 0, an acknowledgement with zeros behind it, a strip that was handed out and its number, 0 where none was.
-#[derive(Drop)]
+// A strip that was handed out, under its number.
+#[derive(Clone, Copy)]
+pub struct Strip {
+    pub number: u32,
+    pub bytes: [u8; 676],
+}
+
+// A master's state and rooms.
+#[derive(Clone, Copy)]
 pub struct Master {
     pub state: [u8; 9],
     pub rooms: [u8; 43264],
-    pub answer: u32,
-    pub item: [u8; 688],
-    pub strip: [u8; 676],
-    pub number: u32,
 }
 
-// What the host of a master has stored last.
-#[derive(Drop)]
-pub struct Stored {
-    pub state: [u8; 9],
-    pub rooms: [u8; 43264],
-}
-
-// A new master: role 0 is an active one, 3 a standby.
-pub fn new(role: u8) -> Master {
-    Master {
-        state: [role, 0, 0, 0, 0, 0, 0, 0, 0],
-        rooms: [0u8; 43264],
-        answer: 0,
-        item: [0u8; 688],
-        strip: [0u8; 676],
-        number: 0,
-    }
-}
-
-// Its host stores it, whole.
-pub fn store(master: &Master) -> Stored {
-    Stored {
-        state: master.state,
-        rooms: master.rooms,
-    }
-}
-
-// It has lost power, and starts again from what was stored last.
-pub fn restart(master: &mut Master, stored: &Stored) {
-    master.state = stored.state;
-    master.rooms = stored.rooms;
-}
-
-// How long a strip is for keys of a size.
+// How long a strip is for keys of a size. It is asked of a literal too, so its bound is no type's.
 fn size_of(key_size: u8) -> usize
     requires { key_size ≤ 32 }
     ensures { (292 ≤ result) × (result ≤ 676) }
 {
-    12 * (key_size as usize) + 292
+    12 * usize::from(key_size) + 292
 }
 
 // The bytes of a strip, with more behind it where it is not the longest. The fifth and sixth tell which of those ever made it is; the other records' bytes are below 4, as every third has to be.
 fn make_strip(key_size: u8, made: u32) -> [u8; 676]
     requires { key_size ≤ 32 }
 {
-    let behind = size_of(key_size) - 2;
+    let [high, low] = ((size_of(key_size) - 2) as u16).to_be_bytes();
+    let [_, _, sixth, fifth] = made.to_be_bytes();
     let mut strip = [0u8; 676];
-    let mut i = 0;
-    while i < 676 {
-        strip[i] = (i % 4) as u8;
-        i += 1;
+    for (byte, below) in strip.iter_mut().zip((0..4).cycle()) {
+        *byte = below;
     }
-    strip[0] = (behind / 256) as u8;
-    strip[1] = (behind % 256) as u8;
-    strip[2] = 1;
-    strip[3] = key_size;
-    strip[4] = (made % 256) as u8;
-    strip[5] = (made / 256 % 256) as u8;
+    strip[..6].copy_from_slice(&[high, low, 1, key_size, fifth, sixth]);
     strip
 }
 
-// A script is so short that its numbers stay below 65,536, and two of their four bytes tell them.
-pub fn small(high: u8, low: u8) -> u32 {
-    256 * (high as u32) + (low as u32)
+// The strip that a call handed out; the number beside it is 0 where it handed out none.
+fn handed_out(number: [u8; 4], bytes: [u8; 676]) -> Option<Strip> {
+    match u32::from_be_bytes(number) {
+        0 => None,
+        number => Some(Strip { number, bytes }),
+    }
 }
 
-// A new strip is added.
-pub fn add(master: &mut Master, key_size: u8, made: u32)
-    requires { key_size ≤ 32 }
-{
-    let strip = make_strip(key_size, made);
-    let size = size_of(key_size);
-    let answer = pool_adding::add(&mut master.state, &mut master.rooms, &strip[..size]);
-    master.answer = refusal::outcome_number(answer);
+impl Master {
+    // A new master, an active one or a standby.
+    pub fn new(role: Role) -> Master {
+        let mut state = [0; 9];
+        let new = State {
+            role: role as u8,
+            added: 0,
+            taken: 0,
+        };
+        new.write(&mut state);
+        Master {
+            state,
+            rooms: [0; 43264],
+        }
+    }
+
+    // A new strip is added.
+    pub fn add(&mut self, key_size: u8, made: u32) -> Result<(), Refusal>
+        requires { key_size ≤ 32 }
+    {
+        let strip = make_strip(key_size, made);
+        let strip = &strip[..size_of(key_size)];
+        pool_adding::add(&mut self.state, &mut self.rooms, strip)
+    }
+
+    // This and `acknowledge` have their own five parts; a closure over them would be longer than either.
+    pub fn take(&mut self) -> Result<Option<Strip>, Refusal> {
+        let mut number = [0; 4];
+        let mut strip = [0; 676];
+        pool_taking::take(&mut self.state, &mut self.rooms, &mut number, &mut strip)?;
+        Ok(handed_out(number, strip))
+    }
+
+    pub fn acknowledge(&mut self, acknowledgement: &Item) -> Result<Option<Strip>, Refusal> {
+        let mut number = [0; 4];
+        let mut strip = [0; 676];
+        pool_taking::acknowledge(
+            &mut self.state,
+            &mut self.rooms,
+            acknowledgement.message(),
+            &mut number,
+            &mut strip,
+        )?;
+        Ok(handed_out(number, strip))
+    }
+
+    pub fn go_alone(&mut self) -> Result<(), Refusal> {
+        pool_standby::go_alone(&mut self.state)
+    }
+
+    // The outstanding message is read out, where there is one; where there is none, the pool leaves zeros, whose length field says two bytes.
+    pub fn outstanding(&self) -> Option<Item> {
+        let mut item = Item::EMPTY;
+        pool_sending::outstanding(&self.state, &self.rooms, &mut item.bytes).ok()?;
+        if item.message().len() == 2 {
+            return None;
+        }
+        Some(item)
+    }
+
+    // A message is applied, and answers its acknowledgement.
+    pub fn apply(&mut self, message: &Item) -> Result<Item, Refusal> {
+        let mut item = Item::EMPTY;
+        pool_standby::apply(
+            &mut self.state,
+            &mut self.rooms,
+            message.message(),
+            &mut item.bytes[..8],
+        )?;
+        Ok(item)
+    }
 }
 
-pub fn take(master: &mut Master) {
-    let mut number = [0u8; 4];
-    let mut strip = [0u8; 676];
-    let answer = pool_taking::take(
-        &mut master.state,
-        &mut master.rooms,
-        &mut number,
-        &mut strip,
-    );
-    master.answer = refusal::outcome_number(answer);
-    master.number = small(number[2], number[3]);
-    master.strip = strip;
-}
-
-pub fn acknowledge(master: &mut Master, item: &[u8; 688]) {
-    let size = link::size_of(item);
-    let mut number = [0u8; 4];
-    let mut strip = [0u8; 676];
-    let answer = pool_taking::acknowledge(
-        &mut master.state,
-        &mut master.rooms,
-        &item[..size],
-        &mut number,
-        &mut strip,
-    );
-    master.answer = refusal::outcome_number(answer);
-    master.number = small(number[2], number[3]);
-    master.strip = strip;
-}
-
-pub fn go_alone(master: &mut Master) {
-    let answer = pool_standby::go_alone(&mut master.state);
-    master.answer = refusal::outcome_number(answer);
-}
-
-// The outstanding message is read out; all zeros where there is none.
-pub fn outstanding(master: &Master) -> [u8; 688] {
-    let mut item = [0u8; 688];
-    let _ = pool_sending::outstanding(&master.state, &master.rooms, &mut item);
-    item
-}
-
-// A message is applied and acknowledged.
-pub fn apply(master: &mut Master, message: &[u8; 688]) {
-    let size = link::size_of(message);
-    let mut item = [0u8; 688];
-    let answer = pool_standby::apply(
-        &mut master.state,
-        &mut master.rooms,
-        &message[..size],
-        &mut item[..8],
-    );
-    master.answer = refusal::outcome_number(answer);
-    master.item = item;
+// The numbers that a master holds, lowest to highest, and how many; and what its role adds to it.
+impl fmt::Display for Master {
+    fn fmt<W: fmt::Write>(&self, f: &mut fmt::Formatter<W>) -> fmt::Result {
+        let state = State::read(&self.state);
+        if state.taken < state.added {
+            let held = state.added - state.taken;
+            write!(f, "{}-{} ({held})", state.taken + 1, state.added)?;
+        } else {
+            f.write_str("none")?;
+        }
+        if state.is(Role::Adding) || state.is(Role::Taking) {
+            f.write_str(", waiting")
+        } else if state.is(Role::Alone) {
+            f.write_str(", alone")
+        } else {
+            Ok(())
+        }
+    }
 }

@@ -1,15 +1,17 @@
 -- Parts of the rooms written and read, as the definitions have them. Assumes nothing.
-use Prim.Native.Nat.{ℕ, zero, suc, ◌+◌, ◌-◌, ◌*◌, ◌%◌, ◌<◌, ◌≤◌}
+use Prim.Native.Nat.{ℕ, zero, suc, ◌+◌, ◌-◌, ◌*◌, ◌%◌, ◌<◌, ◌≤◌, min}
 use native.Mathlib.Omega.{arith}
 use mathlib.Core.Path.{◌≡◌, refl, ap, ◌∙◌}
 use mathlib.Core.List.{List, [], ◌++◌, append-nil}
 use lib.ListN.{length, take, drop, replicate, length-drop, drop_of_length-le}
 use lib.Seq.{take-length, length-take-le, drop-drop}
+use Rattle.std.proofs.Math.Nat.{min_comm}
+use Rattle.std.proofs.lemmas.List.{take_all, take_min, drop_min, length-take}
 use borrow.Author.Tests.{le-leb, lt-leb}
 use borrow.Rule.Slice.PartMut.{put_mid}
 use Rattle.refusal.specs.Part.{on_length}
 use Rattle.refusal.proofs.Part.{of_length}
-use Rattle.pool_rooms.specs.Rooms.{rooms_size, room_at, with_room, padded, filled, filled_by, cleared}
+use Rattle.pool_rooms.specs.Rooms.{rooms_size, room_at, with_room, padded, filled, filled_by}
 
 pub drop_zeros : (n m : ℕ) → drop {A = ℕ} n (replicate m 0) ≡ replicate (m - n) 0
 drop_zeros zero m = let e : m - 0 ≡ m = omega arith in rw e refl
@@ -42,9 +44,12 @@ module _ (rooms : List ℕ) (n start : ℕ) (e : start ≡ 676 * (n % 64)) where
   unfolding filled mid
   room_filled s room l h = room_put room ∙ ap (with_room rooms n) (h ∙ ap (λ (k : ℕ). padded k s) (mid_length l))
 
-  pub room_cleared : (room : List ℕ) → start + 676 ≤ length rooms → room ≡ replicate (length (take (start + 676 - start) (drop start rooms))) 0 → put_mid start (start + 676 - start) rooms room ≡ cleared rooms n
-  unfolding cleared mid
-  room_cleared room l h = room_put room ∙ ap (with_room rooms n) (h ∙ ap (λ (k : ℕ). replicate k 0) (mid_length l))
+  -- handed out by its bounds, which are held to the length of the rooms
+  pub room_whole : (from : List ℕ) (cut size : ℕ) → cut ≡ min start (length rooms) → from ≡ take (length rooms - cut) (drop cut rooms) → size ≡ min (length from) 676 → take size from ≡ room_at rooms n
+  unfolding room_at
+  room_whole from cut size f w g =
+      let all : from ≡ drop start rooms = w ∙ take_all (length rooms - cut) (drop cut rooms) (omega (arith, length-drop cut rooms)) ∙ ap (λ (k : ℕ). drop k rooms) f ∙ drop_min start rooms in
+      ap (λ (k : ℕ). take k from) (g ∙ min_comm (length from) 676) ∙ take_min 676 from ∙ ap (take 676) all ∙ ap (λ (k : ℕ). take 676 (drop k rooms)) e
 
   pub room_read : (k : ℕ) → k ≡ start + 676 - start → take k (drop start rooms) ≡ room_at rooms n
   unfolding room_at
@@ -59,6 +64,16 @@ module _ (rooms : List ℕ) (n start : ℕ) (e : start ≡ 676 * (n % 64)) where
       let m : length room ≡ 676 = length-take-le k (drop start rooms) (omega (arith, length-drop start rooms)) ∙ i in
       let z : drop (length room) strip ≡ [] = drop_of_length-le strip {i = length room} (omega arith) in
       p ∙ rw (z, take-length room, append-nil room) (room_read k h)
+
+-- a room of rooms that are whole is whole
+pub room_length : (rooms : List ℕ) (n : ℕ) → length rooms ≡ rooms_size → length (room_at rooms n) ≡ 676
+unfolding room_at
+room_length rooms n h = length-take-le 676 (drop (676 * (n % 64)) rooms) (omega (arith, length-drop (676 * (n % 64)) rooms))
+
+-- and no room is longer
+pub room_short : (rooms : List ℕ) (n : ℕ) → length (room_at rooms n) ≤ 676
+unfolding room_at
+room_short rooms n = omega (arith, length-take 676 (drop (676 * (n % 64)) rooms))
 
 -- ---- a strip put in, where a room can hold it
 module _ (n : ℕ) (s l x : List ℕ) where

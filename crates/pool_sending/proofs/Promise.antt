@@ -12,7 +12,7 @@ use Rattle.pool_numbers.specs.Numbers.{number_bytes}
 use Rattle.pool_message.specs.Message.{front_bytes, addition}
 use Rattle.pool_state.specs.declared.State.{State}
 use Rattle.pool_state.specs.State.{state_in, sent}
-use Rattle.pool_rooms.specs.Rooms.{rooms_size, room_at, padded, strip_in}
+use Rattle.pool_rooms.specs.Rooms.{room_at, padded, strip_in}
 use Rattle.pool_lent.specs.Lent.{not_lent_with}
 use Rattle.pool_checks.specs.Checks.{outstanding_checks}
 use Rattle.pool_sending.specs.Outstanding.{message_of}
@@ -28,9 +28,6 @@ module _ (st rooms out : List ℕ) (p : passes (outstanding_checks st (length ro
 
   pub out_begun : m.role ≡ 1 → 0 < m.added
   out_begun = subst (λ (m : State). m.role ≡ 1 → 0 < m.added) (sym h) lent_out.0.begun
-
-  pub out_rooms : length rooms ≡ rooms_size
-  out_rooms = lent_out.0.sized
 
   module _ (z : List ℕ) (i : z ≡ replicate (length out) 0) where
     pub out_zeroed : length z ≡ 688

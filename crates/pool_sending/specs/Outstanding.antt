@@ -1,6 +1,6 @@
 -- The outstanding message of a master, as it is read out.
-use Rattle.std.specs.Prelude.{ℕ, ◌-◌, List, [], cond, length, eqb}
-use Rattle.refusal.specs.Answer.{Answer, done, refused, first}
+use Rattle.std.specs.Prelude.{ℕ, ◌-◌, List, [], cond, length, eqb, Ok, Err}
+use Rattle.refusal.specs.Answer.{Answer, first}
 use Rattle.pool_message.specs.Message as message
 use Rattle.pool_state.specs.declared.State.{State}
 use Rattle.pool_state.specs.State.{adding, taking, state_in, sent}
@@ -15,4 +15,4 @@ message_of m rooms =
 
 unfoldable pub outstanding_of : List ℕ → List ℕ → List ℕ → Answer (Unit {0}) × List ℕ
 outstanding_of st rooms out =
-    first (outstanding_checks st (length rooms) (length out)) (λ r. (refused r, out)) (done tt, padded 688 (message_of (state_in st) rooms))
+    first (outstanding_checks st (length rooms) (length out)) (λ r. (Err r, out)) (Ok tt, padded 688 (message_of (state_in st) rooms))

@@ -1,9 +1,11 @@
 -- A master's state: nine bytes that the host keeps, and which states a run of calls can make.
-use Rattle.std.specs.Prelude.{ℕ, ◌+◌, ◌-◌, List, ◌∷◌, ◌++◌, Bool, cond, ◌&&◌, ◌||◌, length, get_or, eqb, ltb}
+use Rattle.std.specs.Prelude.{ℕ, ◌+◌, ◌-◌, List, ◌∷◌, ◌++◌, Bool, cond, ◌&&◌, ◌||◌, length, get_or, eqb, leb, ltb}
 use Rattle.refusal.specs.Answer.{above, is_not}
 use Rattle.pool_numbers.specs.Numbers.{number_bytes, number_at}
 use Rattle.pool_mirror.specs.Mirror.{most}
 use Rattle.pool_state.specs.declared.State.{State}
+use Rattle.pool_state.specs.declared.Role.{Role}
+use Rattle.pool_state.specs.declared.Role.TheVariants.{Active, Adding, Taking, Standby, Alone}
 
 -- the roles: an active master with nothing outstanding, with an addition, with a taking outstanding; a standby; one that goes on alone
 abbrev pub active : ℕ
@@ -20,6 +22,13 @@ standby = 3
 
 abbrev pub alone : ℕ
 alone = 4
+
+abbrev pub number : Role → ℕ
+number Active = active
+number Adding = adding
+number Taking = taking
+number Standby = standby
+number Alone = alone
 
 -- a byte for the role, then how many strips were ever added and ever taken
 unfoldable pub state_in : List ℕ → State
@@ -41,6 +50,10 @@ with_role m role = record { role = role; added = m.added; taken = m.taken }
 -- each addition and each taking is one message, so the last sequence number is their sum
 abbrev pub sent : State → ℕ
 sent m = m.added + m.taken
+
+-- as many strips are held as there are rooms
+unfoldable pub full : State → Bool
+full m = leb 64 (m.added - m.taken)
 
 -- how many strips have left their rooms: one taken has not while its taking is outstanding
 unfoldable pub gone : State → ℕ

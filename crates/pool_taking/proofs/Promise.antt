@@ -11,6 +11,7 @@ use Rattle.refusal.specs.Answer.{passes}
 use Rattle.refusal.proofs.First.{neither, passes_first}
 use Rattle.pool_numbers.specs.Numbers.{number_bytes}
 use Rattle.pool_message.specs.Message.{read_of, sequence}
+use Rattle.std.specs.Prelude.{Option}
 use Rattle.pool_message.specs.declared.Message.{Message}
 use Rattle.pool_state.specs.declared.State.{State}
 use Rattle.pool_state.specs.State.{state_in, state_bytes, one_taken, with_role}
@@ -48,16 +49,16 @@ module _ (st rooms number strip : List ℕ) (p : passes (take_checks st (length 
   pub take_may : m.added < 4294967296 → ((length rooms ≡ rooms_size) × (length number ≡ 4)) × ((length strip ≡ 676) × (m.taken < 4294967295))
   take_may b = ((lent.master.sized, lent.four), (lent.room, omega (arith, take_one)))
 
-  pub take_done : (role : ℕ) (st' : List ℕ) (lent' : List ℕ × (List ℕ × List ℕ)) → role ≡ sending m 2 → st' ≡ state_bytes (record { role = role; added = m.added; taken = m.taken + 1 })
-      → lent' ≡ cond (eqb m.role 4) (handing rooms m.taken) (handing_none rooms strip) → (st', lent') ≡ taken (state_in st) rooms strip
+  pub take_done : (role : ℕ) (st' : List ℕ) (alone : Bool) (lent' : List ℕ × (List ℕ × List ℕ)) → role ≡ sending m 2 → st' ≡ state_bytes (record { role = role; added = m.added; taken = m.taken + 1 })
+      → alone ≡ eqb m.role 4 → lent' ≡ cond alone (handing rooms m.taken) (handing_none rooms strip) → (st', lent') ≡ taken (state_in st) rooms strip
   unfolding one_taken
-  take_done role st' lent' q t u = rw (t, q, u, h) refl
+  take_done role st' alone lent' q t a u = rw (t, q, u, a, h) refl
 
 -- ---- an acknowledgement
-pub settled : (m : State) (rooms strip st' : List ℕ) (n : ℕ) (lent : List ℕ × (List ℕ × List ℕ)) → st' ≡ state_bytes (record { role = 0; added = m.added; taken = m.taken }) → n ≡ m.taken - 1
-    → lent ≡ cond (eqb m.role 2) (handing rooms n) (handing_none rooms strip) → (st', lent) ≡ settle m rooms strip
+pub settled : (m : State) (rooms strip st' : List ℕ) (n : ℕ) (due : Bool) (lent : List ℕ × (List ℕ × List ℕ)) → st' ≡ state_bytes (record { role = 0; added = m.added; taken = m.taken }) → n ≡ m.taken - 1
+    → due ≡ eqb m.role 2 → lent ≡ cond due (handing rooms n) (handing_none rooms strip) → (st', lent) ≡ settle m rooms strip
 unfolding settle with_role
-settled m rooms strip st' n lent f g q = rw (f, q, g) refl
+settled m rooms strip st' n due lent f g d q = rw (f, q, g, d) refl
 
 module _ (st rooms b number strip : List ℕ) (p : passes (acknowledge_checks st (length rooms) b (length number) (length strip)) ≡ true) where
   pub acknowledge_may : ((length st ≡ 9) × (length rooms ≡ rooms_size)) × ((length number ≡ 4) × (length strip ≡ 676))
@@ -65,7 +66,7 @@ module _ (st rooms b number strip : List ℕ) (p : passes (acknowledge_checks st
       let l = lent_out_is st (length rooms) (length number) (length strip) (passes_first 6 (not_lent_out st (length rooms) (length number) (length strip)) ((16, not (is_acknowledgement (read_of b))) ∷ []) p).0 in
       ((l.master.nine, l.master.sized), (l.four, l.room))
 
-module _ (st rooms b strip : List ℕ) (m : State) (i : m ≡ state_in st) (x : Message) (g : x ≡ read_of b) (n : ℕ) (l : n ≡ sequence x) (t : Bool) (c : t ≡ counts m n) where
+module _ (st rooms b strip : List ℕ) (m : State) (i : m ≡ state_in st) (x : Option Message) (g : x ≡ read_of b) (n : ℕ) (l : n ≡ sequence x) (t : Bool) (c : t ≡ counts m n) where
   acknowledges : (new : List ℕ × (List ℕ × (List ℕ × List ℕ))) → new ≡ cond t (settle m rooms strip) (st, handing_none rooms strip) → new ≡ acknowledged st rooms (sequence (read_of b)) strip
   acknowledges new z = rw (z, c, l, g, i) refl
 

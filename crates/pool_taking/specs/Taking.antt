@@ -1,6 +1,6 @@
 -- What taking and an acknowledgement answer and leave, for every state, all rooms and any bytes: rules 7.2 and 7.3.
-use Rattle.std.specs.Prelude.{ℕ, ◌+◌, ◌-◌, List, cond, length, eqb}
-use Rattle.refusal.specs.Answer.{Answer, done, refused, first}
+use Rattle.std.specs.Prelude.{ℕ, ◌+◌, ◌-◌, List, cond, length, eqb, Ok, Err}
+use Rattle.refusal.specs.Answer.{Answer, first}
 use Rattle.pool_numbers.specs.Numbers.{number_bytes}
 use Rattle.pool_message.specs.Message as message
 use Rattle.pool_message.specs.Message.{sequence}
@@ -24,8 +24,8 @@ taken m rooms strip =
 
 unfoldable pub take_of : List ℕ → List ℕ → List ℕ → List ℕ → Answer (Unit {0}) × (List ℕ × (List ℕ × (List ℕ × List ℕ)))
 take_of st rooms number strip =
-    first (take_checks st (length rooms) (length number) (length strip)) (λ r. (refused r, (st, (rooms, (number, strip)))))
-    (done tt, taken (state_in st) rooms strip)
+    first (take_checks st (length rooms) (length number) (length strip)) (λ r. (Err r, (st, (rooms, (number, strip)))))
+    (Ok tt, taken (state_in st) rooms strip)
 
 -- ---- an acknowledgement: only that of the outstanding number counts, and one of a taking hands the strip out
 unfoldable pub settle : State → List ℕ → List ℕ → List ℕ × (List ℕ × (List ℕ × List ℕ))
@@ -36,5 +36,5 @@ acknowledged st rooms k strip = cond (counts (state_in st) k) (settle (state_in 
 
 unfoldable pub acknowledge_of : List ℕ → List ℕ → List ℕ → List ℕ → List ℕ → Answer (Unit {0}) × (List ℕ × (List ℕ × (List ℕ × List ℕ)))
 acknowledge_of st rooms bytes number strip =
-    first (acknowledge_checks st (length rooms) bytes (length number) (length strip)) (λ r. (refused r, (st, (rooms, (number, strip)))))
-    (done tt, acknowledged st rooms (sequence (message.read_of bytes)) strip)
+    first (acknowledge_checks st (length rooms) bytes (length number) (length strip)) (λ r. (Err r, (st, (rooms, (number, strip)))))
+    (Ok tt, acknowledged st rooms (sequence (message.read_of bytes)) strip)

@@ -1,25 +1,27 @@
 // Strips taken out of the mirrored pool, and handed out once that is acknowledged: at the active master, or at its standby once it goes on alone, where a strip is handed out at once. A state of nine bytes and 64 rooms, both lent by the host.
-#![tactic(auto)]
+// State, rooms, number and strip go from call to call as the C interface lends them.
+#![tactic(auto, unfolding(crate::specs::Taking::handing_none, pool_state::specs::State::one_taken, pool_state::specs::State::with_role))]
 
 mod parts;
 mod steps;
 
 ghost use Rattle.std.specs.Prelude.{◌≡◌};
-ghost use Rattle.refusal.specs.Answer.{outcome};
 ghost use Rattle.pool_taking.specs.Taking.{take_of, acknowledge_of};
 
-use refusal::Outcome;
+use refusal::Refusal;
 
 // The lowest strip is taken, and the message of it is outstanding; alone, it is handed out at once.
-pub fn take(state: &mut [u8], rooms: &mut [u8], number: &mut [u8], strip: &mut [u8]) -> Outcome
-    ensures { (outcome result, (state.new, (rooms.new, (number.new, strip.new)))) ≡ take_of state.old rooms.old number.old strip.old }
+pub fn take(
+    state: &mut [u8],
+    rooms: &mut [u8],
+    number: &mut [u8],
+    strip: &mut [u8],
+) -> Result<(), Refusal>
+    ensures { (result, (state.new, (rooms.new, (number.new, strip.new)))) ≡ take_of state.old rooms.old number.old strip.old }
 {
-    let checked = pool_checks::take(state, rooms.len(), number.len(), strip.len());
-    let Outcome::Done = checked else {
-        return checked;
-    };
+    pool_checks::take(state, rooms.len(), number.len(), strip.len())?;
     steps::take(state, rooms, number, strip);
-    Outcome::Done
+    Ok(())
 }
 
 // An acknowledgement has come. Only that of the outstanding number counts; any other changes nothing.
@@ -29,19 +31,16 @@ pub fn acknowledge(
     acknowledgement: &[u8],
     number: &mut [u8],
     strip: &mut [u8],
-) -> Outcome
-    ensures { (outcome result, (state.new, (rooms.new, (number.new, strip.new)))) ≡ acknowledge_of state.old rooms.old acknowledgement.now number.old strip.old }
+) -> Result<(), Refusal>
+    ensures { (result, (state.new, (rooms.new, (number.new, strip.new)))) ≡ acknowledge_of state.old rooms.old acknowledgement.now number.old strip.old }
 {
-    let checked = pool_checks::acknowledge(
+    pool_checks::acknowledge(
         state,
         rooms.len(),
         acknowledgement,
         number.len(),
         strip.len(),
-    );
-    let Outcome::Done = checked else {
-        return checked;
-    };
+    )?;
     steps::acknowledge(state, rooms, acknowledgement, number, strip);
-    Outcome::Done
+    Ok(())
 }

@@ -1,3 +1,4 @@
 pub mod First
-pub mod Part
+pub mod Lengths
 pub mod Unique
+pub mod Part

@@ -1,27 +1,24 @@
--- What a call answers: done, with its values, or a refusal.
-use Rattle.std.specs.Prelude.{ℕ, List, [], ◌∷◌, Bool, true, false, not, ◌&&◌, eqb, ltb}
+-- What a call answers: its values, or a refusal.
+use Rattle.std.specs.Prelude.{ℕ, List, [], ◌∷◌, Bool, true, false, not, ◌&&◌, eqb, ltb, Result, Ok, Err}
 use Rattle.refusal.specs.declared.Refusal.{Refusal}
-use Rattle.refusal.specs.declared.Outcome.{Outcome}
-use Rattle.refusal.specs.declared.Outcome.TheVariants.{Done, Refused}
 use Rattle.refusal.specs.Refusal.{number, refusal}
 
-pub data Answer (A : Type 0) : Type 0 where
-  done : A → Answer A
-  refused : Refusal → Answer A
+abbrev pub Answer : Type 0 → Type 0
+Answer A = Result A Refusal
 
 -- zero means done
 abbrev pub answer_number : {A : Type 0} → Answer A → ℕ
-answer_number (done a) = 0
-answer_number (refused r) = number r
-
--- what an answer without a value says
-abbrev pub outcome : Outcome → Answer (Unit {0})
-outcome Done = done tt
-outcome (Refused r) = refused r
+answer_number (Ok a) = 0
+answer_number (Err r) = number r
 
 -- an answer over C: its number, and the lent parts
 abbrev pub numbered : {L : Type 0} → Answer (Unit {0}) × L → ℕ × L
 numbered (a, lent) = (answer_number a, lent)
+
+-- what a check answers by itself: its refusal, where it applies
+abbrev pub refused_if : Refusal → Bool → Answer (Unit {0})
+refused_if r true = Err r
+refused_if r false = Ok tt
 
 -- rule 5.2, the first that applies is given: the refusal numbers in their order, each with whether it applies; what a refusal gives; and what is given where none applies
 unfoldable pub first : {X : Type 0} → List (ℕ × Bool) → (Refusal → X) → X → X

@@ -1,127 +1,138 @@
-// Refusals: the kind of thing refused together with its number, the answers of a check and of a call without a value, and the checks that every crate shares.
+// Refusals: what is refused, of which kind and under which number; the answer of a call over C; and the checks that every crate shares.
 #![tactic(auto)]
 
-ghost use Rattle.std.specs.Prelude.{◌≡◌, [], ◌∷◌, ◌||◌};
-ghost use Rattle.refusal.specs.Refusal.{number, failed};
-ghost use Rattle.refusal.specs.Answer.{refused, above, is_not, none_of, answer_number, outcome};
-ghost use Rattle.refusal.specs.declared.Refusal.TheVariants as kinds;
+ghost use Rattle.std.specs.Prelude.{◌≡◌, ◌||◌};
+ghost use Rattle.refusal.specs.Refusal.{number, kind};
+ghost use Rattle.refusal.specs.Answer.{refused_if, above, is_not, none_of, answer_number};
 
-#[derive(Clone, Copy)]
+use std::error::Error;
+use std::fmt;
+
+// What kind of thing is refused.
+#[derive(Clone, Copy, Debug, PartialEq, Eq, Hash)]
+pub enum Kind {
+    Operand,
+    Key,
+    Buffer,
+    Strip,
+    Direction,
+    Pool,
+    Message,
+    Trace,
+}
+
+// What is refused, under the numbers of the rules. No call gives 17 to 22 yet.
+#[derive(Clone, Copy, Debug, PartialEq, Eq, Hash)]
 pub enum Refusal {
-    Operand(u8),
-    Key(u8),
-    Buffer(u8),
-    Strip(u8),
-    Direction(u8),
-    Pool(u8),
-    Message(u8),
-    Trace(u8),
+    Operand = 1,
+    ThirdByte = 2,
+    PointsLength = 3,
+    KeyLength = 4,
+    RoundKeysLength = 5,
+    NotLent = 6,
+    BadFraming = 7,
+    UnknownVersion = 8,
+    OtherKeySize = 9,
+    BadRecord = 10,
+    Spent = 11,
+    WrongRecordBytes = 12,
+    NoDirection = 13,
+    NoRoom = 14,
+    NoneHeld = 15,
+    BadMessage = 16,
+    NoStrip = 17,
+    LongMessage = 18,
+    EncryptsOnly = 19,
+    RetiredKey = 20,
+    BadTrace = 21,
+    OtherPoint = 22,
+    Waiting = 23,
+    UsedUp = 24,
 }
 
-#[derive(Clone, Copy)]
-pub enum Check {
-    Passed,
-    Failed,
-}
+impl Refusal {
+    // The number goes to a host.
+    pub fn number(self) -> u32
+        ensures { result ≡ number self }
+    {
+        self as u32
+    }
 
-// What a call answers that has no value of its own: what it makes stands in the parts it was lent.
-#[derive(Clone, Copy)]
-pub enum Outcome {
-    Done,
-    Refused(Refusal),
-}
-
-// Fails where x is above the most allowed.
-pub fn check_most(x: u8, most: u8) -> Check
-    ensures { failed result ≡ above most x }
-{
-    if most < x {
-        Check::Failed
-    } else {
-        Check::Passed
+    // The kind is for callers inside the language.
+    pub fn kind(self) -> Kind
+        ensures { result ≡ kind self }
+    {
+        match self {
+            Refusal::Operand | Refusal::ThirdByte => Kind::Operand,
+            Refusal::KeyLength | Refusal::RetiredKey => Kind::Key,
+            Refusal::PointsLength | Refusal::RoundKeysLength | Refusal::NotLent => Kind::Buffer,
+            Refusal::BadFraming
+            | Refusal::UnknownVersion
+            | Refusal::OtherKeySize
+            | Refusal::BadRecord
+            | Refusal::Spent
+            | Refusal::WrongRecordBytes
+            | Refusal::NoStrip
+            | Refusal::EncryptsOnly => Kind::Strip,
+            Refusal::NoDirection => Kind::Direction,
+            Refusal::NoRoom | Refusal::NoneHeld | Refusal::Waiting | Refusal::UsedUp => Kind::Pool,
+            Refusal::BadMessage | Refusal::LongMessage => Kind::Message,
+            Refusal::BadTrace | Refusal::OtherPoint => Kind::Trace,
+        }
     }
 }
 
-// Fails where one of the two is above the most allowed.
-pub fn check_both(x: u8, y: u8, most: u8) -> Check
-    ensures { failed result ≡ (above most x || above most y) }
-{
-    let Check::Passed = check_most(x, most) else {
-        return Check::Failed;
-    };
-    check_most(y, most)
+impl fmt::Display for Refusal {
+    fn fmt<W: fmt::Write>(&self, f: &mut fmt::Formatter<W>) -> fmt::Result {
+        write!(f, "refused, {}", self.number())
+    }
 }
 
-// Fails where a length is not the one wanted.
-pub fn check_length(length: usize, wanted: usize) -> Check
-    ensures { failed result ≡ is_not wanted length }
+impl Error for Refusal {}
+
+// Refuses what is above the most allowed.
+pub fn check_most(x: u8, most: u8, refusal: Refusal) -> Result<(), Refusal>
+    ensures { result ≡ refused_if refusal (above most x) }
+{
+    if most < x { Err(refusal) } else { Ok(()) }
+}
+
+// Refuses where one of the two is above the most allowed.
+pub fn check_both(x: u8, y: u8, most: u8, refusal: Refusal) -> Result<(), Refusal>
+    ensures { result ≡ refused_if refusal (above most x || above most y) }
+{
+    check_most(x, most, refusal)?;
+    check_most(y, most, refusal)
+}
+
+// Refuses a length that is not the one wanted.
+pub fn check_length(length: usize, wanted: usize, refusal: Refusal) -> Result<(), Refusal>
+    ensures { result ≡ refused_if refusal (is_not wanted length) }
 {
     if length == wanted {
-        Check::Passed
+        Ok(())
     } else {
-        Check::Failed
+        Err(refusal)
     }
 }
 
-// Fails where a length is none of the three wanted.
-pub fn check_lengths(length: usize, one: usize, two: usize, three: usize) -> Check
-    ensures { failed result ≡ none_of (one ∷ two ∷ three ∷ []) length }
+// Refuses a length that is none of those wanted.
+pub fn check_lengths(length: usize, wanted: &[usize], refusal: Refusal) -> Result<(), Refusal>
+    ensures { result ≡ refused_if refusal (none_of wanted.now length) }
 {
-    let Check::Failed = check_length(length, one) else {
-        return Check::Passed;
-    };
-    let Check::Failed = check_length(length, two) else {
-        return Check::Passed;
-    };
-    check_length(length, three)
-}
-
-// The refusals that many calls give, by their kind.
-pub fn buffer(n: u8) -> Outcome
-    ensures { outcome result ≡ refused (kinds.Buffer n) }
-{
-    Outcome::Refused(Refusal::Buffer(n))
-}
-
-pub fn pool(n: u8) -> Outcome
-    ensures { outcome result ≡ refused (kinds.Pool n) }
-{
-    Outcome::Refused(Refusal::Pool(n))
-}
-
-pub fn message(n: u8) -> Outcome
-    ensures { outcome result ≡ refused (kinds.Message n) }
-{
-    Outcome::Refused(Refusal::Message(n))
-}
-
-fn wide(x: u8) -> u32
-    ensures { result ≡ x }
-{
-    x as u32
-}
-
-// The kind is for callers inside the language; a host gets the number.
-pub fn refusal_number(refusal: Refusal) -> u32
-    ensures { result ≡ number refusal }
-{
-    match refusal {
-        Refusal::Operand(n) => wide(n),
-        Refusal::Key(n) => wide(n),
-        Refusal::Buffer(n) => wide(n),
-        Refusal::Strip(n) => wide(n),
-        Refusal::Direction(n) => wide(n),
-        Refusal::Pool(n) => wide(n),
-        Refusal::Message(n) => wide(n),
-        Refusal::Trace(n) => wide(n),
+    if wanted.contains(&length) {
+        Ok(())
+    } else {
+        Err(refusal)
     }
 }
 
-pub fn outcome_number(answer: Outcome) -> u32
-    ensures { result ≡ answer_number (outcome answer) }
+// What a host gets: 0 where the call is done, else the number of the refusal.
+pub fn answer_number<T: Drop>(answer: Result<T, Refusal>) -> u32
+    ensures { result ≡ answer_number answer }
 {
     match answer {
-        Outcome::Done => 0,
-        Outcome::Refused(refusal) => refusal_number(refusal),
+        Ok(_) => 0,
+        Err(refusal) => refusal.number(),
     }
 }

@@ -12,7 +12,7 @@ ghost use Rattle.pool_taking.specs.Taking.{take_of, acknowledge_of};
 pub extern "C" fn salcivorn_pool_add(state: &mut [u8], rooms: &mut [u8], strip: &[u8]) -> u32
     ensures { (result, (state.new, rooms.new)) ≡ numbered (add_of state.old rooms.old strip.now) }
 {
-    refusal::outcome_number(pool_adding::add(state, rooms, strip))
+    refusal::answer_number(pool_adding::add(state, rooms, strip))
 }
 
 #[unsafe(no_mangle)]
@@ -24,14 +24,14 @@ pub extern "C" fn salcivorn_pool_take(
 ) -> u32
     ensures { (result, (state.new, (rooms.new, (number.new, strip.new)))) ≡ numbered (take_of state.old rooms.old number.old strip.old) }
 {
-    refusal::outcome_number(pool_taking::take(state, rooms, number, strip))
+    refusal::answer_number(pool_taking::take(state, rooms, number, strip))
 }
 
 #[unsafe(no_mangle)]
 pub extern "C" fn salcivorn_pool_outstanding(state: &[u8], rooms: &[u8], message: &mut [u8]) -> u32
     ensures { (result, message.new) ≡ numbered (outstanding_of state.now rooms.now message.old) }
 {
-    refusal::outcome_number(pool_sending::outstanding(state, rooms, message))
+    refusal::answer_number(pool_sending::outstanding(state, rooms, message))
 }
 
 #[unsafe(no_mangle)]
@@ -44,7 +44,7 @@ pub extern "C" fn salcivorn_pool_acknowledge(
 ) -> u32
     ensures { (result, (state.new, (rooms.new, (number.new, strip.new)))) ≡ numbered (acknowledge_of state.old rooms.old acknowledgement.now number.old strip.old) }
 {
-    refusal::outcome_number(pool_taking::acknowledge(state, rooms, acknowledgement, number, strip))
+    refusal::answer_number(pool_taking::acknowledge(state, rooms, acknowledgement, number, strip))
 }
 
 #[unsafe(no_mangle)]
@@ -56,12 +56,12 @@ pub extern "C" fn salcivorn_pool_apply(
 ) -> u32
     ensures { (result, (state.new, (rooms.new, acknowledgement.new))) ≡ numbered (apply_of state.old rooms.old message.now acknowledgement.old) }
 {
-    refusal::outcome_number(pool_standby::apply(state, rooms, message, acknowledgement))
+    refusal::answer_number(pool_standby::apply(state, rooms, message, acknowledgement))
 }
 
 #[unsafe(no_mangle)]
 pub extern "C" fn salcivorn_pool_go_alone(state: &mut [u8]) -> u32
     ensures { (result, state.new) ≡ numbered (go_alone_of state.old) }
 {
-    refusal::outcome_number(pool_standby::go_alone(state))
+    refusal::answer_number(pool_standby::go_alone(state))
 }

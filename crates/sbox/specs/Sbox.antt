@@ -1,8 +1,9 @@
 -- Rules 4.1 to 4.3: the masked S-box and its inverse.
-use Rattle.std.specs.Prelude.{ℕ, List, [], ◌∷◌, length, get_or}
+use Rattle.std.specs.Prelude.{ℕ, List, [], ◌∷◌, length, get_or, Ok, Err}
 use Rattle.fips197.specs.Field.{◌⊕◌}
 use Rattle.fips197.specs.Cipher.{linear, inv_linear}
-use Rattle.refusal.specs.Answer.{Answer, done, refused, first, above, is_not}
+use Rattle.refusal.specs.Answer.{Answer, first, above, is_not}
+use Rattle.refusal.specs.Part.{on_length}
 use Rattle.tower.specs.Tower.{to_tower, from_tower}
 use Rattle.points.specs.Points.{masked_inverse, record_points}
 use Rattle.tower.specs.declared.Record.{Record}
@@ -41,12 +42,18 @@ ways = tt
 abbrev pub record_of : List ℕ → Record
 record_of l = record { qt = get_or l 0 0; s = get_or l 1 0; r = get_or l 2 0 }
 
+-- what a call makes of a byte and its mask where they stand, and of a buffer that has room for the inversion's points; or refusal 2, and all as it was
+abbrev pub substituted_in_place : Direction → ℕ → ℕ → Record → List ℕ → Answer (Unit {0}) × (ℕ × (ℕ × List ℕ))
+substituted_in_place dir d m ρ buffer =
+    first ((2, above 3 ρ.r) ∷ []) (λ r. (Err r, (d, (m, buffer))))
+    (Ok tt, (new_byte dir d m ρ, (new_mask dir ρ, on_length 62 (λ _. record_points (enter_data dir d) (enter_mask dir m) ρ) buffer)))
+
 -- what a call answers: the two bytes, or refusal 2
 abbrev pub substituted : Direction → ℕ → ℕ → Record → Answer (ℕ × ℕ)
-substituted dir d m ρ = first ((2, above 3 ρ.r) ∷ []) refused (done (new_byte dir d m ρ, new_mask dir ρ))
+substituted dir d m ρ = first ((2, above 3 ρ.r) ∷ []) Err (Ok (new_byte dir d m ρ, new_mask dir ρ))
 
 -- the same with the inversion's points: refusal 3 before 2, and then the points buffer as it was
 abbrev pub substituted_with_points : Direction → ℕ → ℕ → Record → List ℕ → Answer (ℕ × ℕ) × List ℕ
 substituted_with_points dir d m ρ buffer =
-    first ((3, is_not 62 (length buffer)) ∷ (2, above 3 ρ.r) ∷ []) (λ r. (refused r, buffer))
-    (done (new_byte dir d m ρ, new_mask dir ρ), record_points (enter_data dir d) (enter_mask dir m) ρ)
+    first ((3, is_not 62 (length buffer)) ∷ (2, above 3 ρ.r) ∷ []) (λ r. (Err r, buffer))
+    (Ok (new_byte dir d m ρ, new_mask dir ρ), record_points (enter_data dir d) (enter_mask dir m) ρ)

@@ -1,18 +1,27 @@
 // The masked S-box and its inverse, with and without points.
-#![tactic(auto)]
+#![tactic(auto, unfolding(refusal::specs::Answer::first, fips197::specs::Field::field, crate::specs::Sbox::ways, refusal::specs::Part::on_length))]
 
 ghost use Rattle.std.specs.Prelude.{◌≡◌};
-ghost use Rattle.inversion.specs.Answers.{byte_and_mask};
-ghost use Rattle.sbox.specs.Sbox.{enter, leave, substituted, substituted_with_points};
+ghost use Rattle.sbox.specs.Sbox.{record_of, enter, leave, substituted_in_place, substituted, substituted_with_points};
 
-use inversion::Masked;
-use refusal::{Check, Refusal};
+use refusal::Refusal;
 use tower::Record;
 
-#[derive(Clone, Copy)]
+#[derive(Clone, Copy, Debug, PartialEq, Eq, Hash)]
 pub enum Direction {
     Encrypt,
     Decrypt,
+}
+
+// A record from the part of a strip that holds its three bytes; those that are not there count as zero.
+pub fn record_of(part: &[u8]) -> Record
+    ensures { result ≡ record_of part.now }
+{
+    Record {
+        qt: part.get(0).copied().unwrap_or(0),
+        s: part.get(1).copied().unwrap_or(0),
+        r: part.get(2).copied().unwrap_or(0),
+    }
 }
 
 // One part on its way to the inversion, with the constant that is its own: 05 for the data, none for the mask.
@@ -37,51 +46,55 @@ fn leave(direction: Direction, x: u8, constant: u8) -> u8
     }
 }
 
-// The S-box on a masked byte: data and mask go in and come back each on its own way, and meet in the inversion alone.
-// The mask's way back depends on the record alone, so it is taken apart from the data's, and before it: between mask and data every register holds the record's S.
-// The record is checked first, so that the compiler leaves the three ways in this order; and it is a call of its own, to which data and mask come in two registers.
+// The S-box on a masked byte and its mask, which are rewritten where they stand: each goes in and comes back on its own way, and they meet in the inversion alone.
+// The inversion's points are left in a buffer of 62 bytes; any other is left as it is.
+// The mask's way back depends on the record alone, so it is taken and stored apart from the data's, and before it: between mask and data every register holds the record's S, and none is left for the outgoing mask when the new data byte has come.
+// The record is checked first, so that the compiler leaves the three ways in this order; and it is a call of its own, which answers no two bytes, since they would come in one word.
 #[inline(never)]
-pub fn substitute(direction: Direction, data: u8, mask: u8, record: Record) -> Masked
-    ensures { byte_and_mask result ≡ substituted direction «data» mask «record» }
+pub fn substitute_in_place(
+    direction: Direction,
+    data: &mut u8,
+    mask: &mut u8,
+    record: Record,
+    points: &mut [u8],
+) -> Result<(), Refusal>
+    ensures { (result, («data».new, (mask.new, points.new))) ≡ substituted_in_place direction «data».old mask.old «record» points.old }
 {
-    let Check::Passed = refusal::check_most(record.r, 3) else {
-        return Masked::Refused(Refusal::Operand(2));
-    };
-    let m = enter(direction, mask, 0x00);
-    let outgoing = leave(direction, record.s, 0x00);
-    let a = enter(direction, data, 0x05);
-    let inverted = inversion::invert(a, m, record);
-    let Masked::Byte(value, _) = inverted else {
-        return inverted;
-    };
-    let result = leave(direction, value, 0x63);
-    Masked::Byte(result, outgoing)
+    refusal::check_most(record.r, 3, Refusal::ThirdByte)?;
+    let m = enter(direction, *mask, 0x00);
+    *mask = leave(direction, record.s, 0x00);
+    let a = enter(direction, *data, 0x05);
+    let inverse = inversion::invert_into(a, m, record, points)?;
+    *data = leave(direction, inverse, 0x63);
+    Ok(())
+}
+
+// The same on two bytes that come back beside each other, the points left nowhere.
+pub fn substitute(
+    direction: Direction,
+    data: u8,
+    mask: u8,
+    record: Record,
+) -> Result<(u8, u8), Refusal>
+    ensures { result ≡ substituted direction «data» mask «record» }
+{
+    let (mut data, mut mask) = (data, mask);
+    substitute_in_place(direction, &mut data, &mut mask, record, &mut [])?;
+    Ok((data, mask))
 }
 
 // The same, the inversion's 62 points left in the lent buffer.
-#[inline(never)]
 pub fn substitute_points(
     direction: Direction,
     data: u8,
     mask: u8,
     record: Record,
     points: &mut [u8],
-) -> Masked
-    ensures { (byte_and_mask result, points.new) ≡ substituted_with_points direction «data» mask «record» points.old }
+) -> Result<(u8, u8), Refusal>
+    ensures { (result, points.new) ≡ substituted_with_points direction «data» mask «record» points.old }
 {
-    let Check::Passed = refusal::check_length(points.len(), 62) else {
-        return Masked::Refused(Refusal::Buffer(3));
-    };
-    let Check::Passed = refusal::check_most(record.r, 3) else {
-        return Masked::Refused(Refusal::Operand(2));
-    };
-    let m = enter(direction, mask, 0x00);
-    let outgoing = leave(direction, record.s, 0x00);
-    let a = enter(direction, data, 0x05);
-    let inverted = inversion::invert_points(a, m, record, points);
-    let Masked::Byte(value, _) = inverted else {
-        return inverted;
-    };
-    let result = leave(direction, value, 0x63);
-    Masked::Byte(result, outgoing)
+    refusal::check_length(points.len(), 62, Refusal::PointsLength)?;
+    let (mut data, mut mask) = (data, mask);
+    substitute_in_place(direction, &mut data, &mut mask, record, points)?;
+    Ok((data, mask))
 }

@@ -9,7 +9,6 @@ use lib.Seq.{get_or-drop, drop-drop}
 use lib.Dec.{eqb}
 use borrow.Author.Tests.{lt-ltb, le-ltb, ltb-false, eqb-true, not-false}
 use Rattle.refusal.specs.Answer.{first, above, passes}
-use Rattle.refusal.specs.declared.Check.TheVariants.{Passed}
 use Rattle.refusal.proofs.First.{clash, neither, both_true, passes_first, found}
 use Rattle.strip.specs.Strip.{version, key_size, record_bytes, same_form, bad_framing, spent, unknown_version, wrong_record_bytes, bad_third, bad_record, check_list, block_checks, own_checks, whole_record, record_part}
 
@@ -116,7 +115,7 @@ pub own_short : (s : List ℕ) → passes (own_checks s) ≡ true → length s �
 own_short s e =
     let u = unrefused s _ e in
     let b : record_bytes s ≡ 12 * key_size s + 288 = right_bytes s u.counted in
-    found 16 24 32 (key_size s) Passed (sym u.right_size) refl (λ k. omega arith) (λ k. omega arith) (λ k. omega arith)
+    found 16 24 32 (key_size s) u.right_size (λ k. omega arith) (λ k. omega arith) (λ k. omega arith)
 
 pub good : (s : List ℕ) (size : ℕ) → passes (block_checks s size) ≡ true → Fit s size
 good s size e =

@@ -1,3 +1,3 @@
-pub mod Laws
 pub mod Good
 pub mod Edges
+pub mod Laws

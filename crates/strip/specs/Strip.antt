@@ -1,6 +1,6 @@
 -- What a strip is, on its list of bytes; when each refusal applies to it; which part of it is a record; and what is left of it when it has served.
-use Rattle.std.specs.Prelude.{ℕ, ◌+◌, ◌-◌, ◌*◌, List, [], ◌∷◌, ◌++◌, Bool, false, not, cond, ◌&&◌, ◌||◌, length, get_or, take, drop, set, replicate, eqb, ltb}
-use Rattle.refusal.specs.Answer.{Answer, done, refused, first, above, is_not, none_of}
+use Rattle.std.specs.Prelude.{ℕ, ◌+◌, ◌-◌, ◌*◌, List, [], ◌∷◌, ◌++◌, Bool, false, not, cond, ◌&&◌, ◌||◌, length, get_or, take, drop, set, replicate, eqb, ltb, Ok, Err}
+use Rattle.refusal.specs.Answer.{Answer, first, above, is_not, none_of}
 
 -- rule 3.2: how many bytes follow the length field, the version, the key size, and the number of record bytes
 abbrev pub length_field : List ℕ → ℕ
@@ -67,19 +67,21 @@ own_checks s = check_list s (none_of (16 ∷ 24 ∷ 32 ∷ []) (key_size s))
 
 -- what the check of a strip answers, for a block and by itself
 abbrev pub form_of : List ℕ → ℕ → Answer (Unit {0})
-form_of s size = first (block_checks s size) refused (done tt)
+form_of s size = first (block_checks s size) Err (Ok tt)
 
 abbrev pub own_form_of : List ℕ → Answer (Unit {0})
-own_form_of s = first (own_checks s) refused (done tt)
+own_form_of s = first (own_checks s) Err (Ok tt)
 
 -- rule 3.4: the record of an index, from the fifth byte on; nothing where the whole record is not there
 unfoldable pub whole_record : List ℕ → ℕ → List ℕ
 whole_record s index = cond (ltb (length s) (4 + 3 * index + 3)) [] (take 3 (drop (4 + 3 * index) s))
 
 -- nor where 7, 8 or 11 applies to the strip
+abbrev pub reading_checks : List ℕ → List (ℕ × Bool)
+reading_checks s = (7, bad_framing s) ∷ (8, unknown_version s) ∷ (11, spent s) ∷ []
+
 abbrev pub record_part : List ℕ → ℕ → List ℕ
-record_part s index =
-    first ((7, bad_framing s) ∷ (8, unknown_version s) ∷ (11, spent s) ∷ []) (λ _. []) (whole_record s index)
+record_part s index = first (reading_checks s) (λ _. []) (whole_record s index)
 
 -- rule 3.3: what is left of a strip that has served
 unfoldable pub wiped : List ℕ → List ℕ

@@ -1,70 +1,67 @@
 // Strips: their form, the checks of their first bytes, the reader of records and the wipe.
-#![tactic(auto)]
+#![tactic(auto, unfolding(crate::specs::Strip::bad_framing, crate::specs::Strip::spent, crate::specs::Strip::unknown_version, crate::specs::Strip::whole_record, crate::specs::Strip::wiped, refusal::specs::Answer::first))]
 
-ghost use Rattle.std.specs.Prelude.{◌≡◌, length, replicate};
-ghost use Rattle.refusal.specs.Refusal.{failed};
-ghost use Rattle.strip.specs.Strip.{version, bad_framing, spent, unknown_version, record_part, wiped};
+ghost use Rattle.std.specs.Prelude.{◌≡◌, length, replicate, Ok, Err};
+ghost use Rattle.refusal.specs.Refusal.{refusal};
+ghost use Rattle.refusal.specs.Answer.{refused_if, first};
+ghost use Rattle.strip.specs.Strip.{version, bad_framing, spent, unknown_version, reading_checks, record_part, wiped};
 
-use refusal::Check;
+use refusal::Refusal;
 
-// 7, and the framing of messages: the two bytes are widened before they are joined, so that nothing overflows.
-pub fn check_framing(strip: &[u8]) -> Check
-    ensures { failed result ≡ bad_framing strip.now }
+// 7, and the framing of messages.
+pub fn check_framing(strip: &[u8]) -> Result<(), Refusal>
+    ensures { result ≡ refused_if (refusal 7) (bad_framing strip.now) }
 {
     let size = strip.len();
     if size < 4 {
-        return Check::Failed; // no room for the first four bytes
+        return Err(Refusal::BadFraming); // no room for the first four bytes
     }
-    refusal::check_length((strip[0] as usize) * 256 + (strip[1] as usize), size - 2)
+    let field = u16::from_be_bytes([strip[0], strip[1]]);
+    refusal::check_length(usize::from(field), size - 2, Refusal::BadFraming)
 }
 
 // The version that a strip names; what is too short to name one has version 0.
 fn version_of(strip: &[u8]) -> u8
     ensures { result ≡ version strip.now }
 {
-    if strip.len() < 3 {
-        return 0;
-    }
-    strip[2]
+    strip.get(2).copied().unwrap_or(0)
 }
 
 // 11: a spent strip has its own number, so version 0 is asked for apart.
-pub fn check_unspent(strip: &[u8]) -> Check
-    ensures { failed result ≡ spent strip.now }
+pub fn check_unspent(strip: &[u8]) -> Result<(), Refusal>
+    ensures { result ≡ refused_if (refusal 11) (spent strip.now) }
 {
     if version_of(strip) == 0 {
-        Check::Failed
-    } else {
-        Check::Passed
+        return Err(Refusal::Spent);
     }
+    Ok(())
 }
 
 // 8: version 0 passes here, since 11 speaks of it.
-pub fn check_version(strip: &[u8]) -> Check
-    ensures { failed result ≡ unknown_version strip.now }
+pub fn check_version(strip: &[u8]) -> Result<(), Refusal>
+    ensures { result ≡ refused_if (refusal 8) (unknown_version strip.now) }
 {
-    let version = version_of(strip);
-    if version == 0 {
-        return Check::Passed;
+    match version_of(strip) {
+        0 | 1 => Ok(()),
+        _ => Err(Refusal::UnknownVersion),
     }
-    if version == 1 {
-        return Check::Passed;
-    }
-    Check::Failed
+}
+
+// What is refused of a strip that a record is read from.
+fn check_readable(strip: &[u8]) -> Result<(), Refusal>
+    ensures { result ≡ first (reading_checks strip.now) Err (Ok tt) }
+{
+    check_framing(strip)?;
+    check_version(strip)?;
+    check_unspent(strip)
 }
 
 // A record as a part of the caller's own strip; records count from 0.
-// The index is held against the number of whole records, so that no index overflows.
+// The index is held against the number of whole records, so that no index overflows. Where there is none it is an empty part and no Option, as the rules have it (3.4).
 pub fn record(strip: &[u8], index: usize) -> &[u8]
     ensures { result.now ≡ record_part strip.now index }
 {
-    let Check::Passed = check_framing(strip) else {
-        return &strip[..0];
-    };
-    let Check::Passed = check_version(strip) else {
-        return &strip[..0];
-    };
-    let Check::Passed = check_unspent(strip) else {
+    let Ok(()) = check_readable(strip) else {
         return &strip[..0];
     };
     if (strip.len() - 4) / 3 <= index {
@@ -78,11 +75,7 @@ pub fn record(strip: &[u8], index: usize) -> &[u8]
 pub fn zero(part: &mut [u8])
     ensures { part.new ≡ replicate (length part.old) 0 }
 {
-    let mut i = 0;
-    while i < part.len() {
-        part[i] = 0;
-        i += 1;
-    }
+    part.fill(0);
 }
 
 // Marks a strip as spent: version 0 and all record bytes zero; length and key size stay.
@@ -98,6 +91,5 @@ pub fn wipe(strip: &mut [u8])
     if size < 5 {
         return;
     }
-    let records = size - 4;
-    zero(&mut strip[4..4 + records]);
+    zero(&mut strip[4..size]);
 }

@@ -1,57 +1,50 @@
--- What the tests of the code on a strip make of its refusals. Assumes nothing.
-use Prim.Native.Nat.{ℕ, ◌+◌, ◌*◌, ◌≤◌, ◌<◌}
-use mathlib.Core.Path.{◌≡◌, refl, sym, ◌∙◌}
-use mathlib.Core.List.{List, [], ◌∷◌}
+-- What a record read off a list of records makes of whether one of them is bad. Assumes nothing.
+use Prim.Native.Nat.{ℕ, ◌≤◌, ◌<◌}
+use mathlib.Core.Path.{◌≡◌, refl, sym, ap, ◌∙◌}
+use mathlib.Core.List.{List, [], ◌∷◌, ◌++◌}
 use mathlib.Core.Bool.{Bool, true, false, ◌||◌}
 use native.Mathlib.Omega.{arith}
-use lib.ListN.{length, get_or, drop, length-drop}
-use lib.Dec.{eqb}
-use borrow.Author.Tests.{lt-ltb, le-ltb, ne_eqb}
-use Rattle.refusal.specs.Answer.{Answer, done, refused, first, is_not, none_of}
-use Rattle.strip.specs.Strip.{version, key_size, record_bytes, wrong_record_bytes, bad_third, bad_record, check_list, form_of, own_form_of}
-use Rattle.strip.proofs.Good.{third_none, third_at}
+use lib.ListN.{length, get_or}
+use borrow.Author.Tests.{lt-ltb, le-ltb}
+use Rattle.std.specs.Prelude.{Ok, Err}
+use Rattle.refusal.specs.declared.Refusal.{Refusal}
+use Rattle.refusal.specs.Answer.{Answer, refused_if, first, above, is_not, none_of}
+use Rattle.strip.specs.Strip.{key_size, bad_third, check_list, form_of, own_form_of}
 
-either_no : (a : Bool) → (a || false) ≡ a
-either_no true = refl
-either_no false = refl
+third_first : (c r : List ℕ) → length c ≡ 3 → bad_third (c ++ r) ≡ (above 3 (get_or c 2 0) || bad_third r)
+unfolding bad_third
+third_first [] r h = absurd (omega arith)
+third_first (a ∷ []) r h = absurd (omega arith)
+third_first (a ∷ b ∷ []) r h = absurd (omega arith)
+third_first (a ∷ b ∷ third ∷ []) r h = refl
+third_first (a ∷ b ∷ third ∷ d ∷ c) r h = absurd (omega arith)
 
--- the number of record bytes, for each form
-module _ (s : List ℕ) (x : Bool) where
-  pub bytes_16 : version s ≡ 1 → key_size s ≡ 16 → x ≡ is_not 480 (record_bytes s) → x ≡ wrong_record_bytes s
-  unfolding wrong_record_bytes
-  bytes_16 v z e = rw (v, z, either_no (eqb (record_bytes s) 480)) e
+third_none : (l : List ℕ) → length l < 3 → bad_third l ≡ false
+unfolding bad_third
+third_none [] h = refl
+third_none (a ∷ []) h = refl
+third_none (a ∷ b ∷ []) h = refl
+third_none (a ∷ b ∷ third ∷ l) h = absurd (omega arith)
 
-  pub bytes_24 : version s ≡ 1 → key_size s ≡ 24 → x ≡ is_not 576 (record_bytes s) → x ≡ wrong_record_bytes s
-  unfolding wrong_record_bytes
-  bytes_24 v z e = rw (v, z, either_no (eqb (record_bytes s) 576)) e
+-- the records that are left, of which the first is read
+module _ (left first_one others : List ℕ) (bad : Bool) (b : bad ≡ bad_third left) (e : left ≡ first_one ++ others) (h : length first_one ≡ 3) where
+  pub third_stop : 3 < get_or first_one 2 0 → true ≡ bad
+  third_stop g = sym (b ∙ ap bad_third e ∙ third_first first_one others h ∙ rw (lt-ltb _ _ g) refl)
 
-  pub bytes_32 : version s ≡ 1 → key_size s ≡ 32 → x ≡ is_not 672 (record_bytes s) → x ≡ wrong_record_bytes s
-  unfolding wrong_record_bytes
-  bytes_32 v z e = rw (v, z, either_no (eqb (record_bytes s) 672)) e
+  pub third_on : get_or first_one 2 0 ≤ 3 → bad ≡ bad_third others
+  third_on g = b ∙ ap bad_third e ∙ third_first first_one others h ∙ rw (le-ltb _ _ g) refl
 
-pub bytes_version : (s : List ℕ) → (version s ≡ 1 → ⊥) → true ≡ wrong_record_bytes s
-unfolding wrong_record_bytes
-bytes_version s n = rw (ne_eqb _ _ n) refl
+pub third_all : (left : List ℕ) (bad : Bool) → bad ≡ bad_third left → length left < 3 → bad ≡ false
+third_all left bad b h = b ∙ third_none left h
 
-pub bytes_other : (s : List ℕ) → version s ≡ 1 → (key_size s ≡ 16 → ⊥) → (key_size s ≡ 24 → ⊥) → (key_size s ≡ 32 → ⊥) → true ≡ wrong_record_bytes s
-unfolding wrong_record_bytes
-bytes_other s v x y z = rw (v, ne_eqb _ _ x, ne_eqb _ _ y, ne_eqb _ _ z) refl
+pub refusing : (r : Refusal) (b : Bool) → true ≡ b → ◌≡◌ {A = Answer (Unit {0})} (Err r) (refused_if r b)
+refusing r b e = ap (refused_if r) e
 
--- the records, where none before this one is bad
-module _ (s : List ℕ) (i : ℕ) (e : bad_record s ≡ bad_third (drop (4 + 3 * i) s)) where
-  pub third_stop : 4 + 3 * i + 3 ≤ length s → 3 < get_or s (4 + 3 * i + 2) 0 → true ≡ bad_record s
-  third_stop h g = sym (e ∙ third_at s i h ∙ rw (lt-ltb _ _ g) refl)
-
-  pub third_on : 4 + 3 * i + 3 ≤ length s → get_or s (4 + 3 * i + 2) 0 ≤ 3 → bad_record s ≡ bad_third (drop (4 + 3 * (i + 1)) s)
-  third_on h g =
-      let n : 4 + 3 * (i + 1) ≡ 4 + 3 * i + 3 = omega arith in
-      e ∙ third_at s i h ∙ rw (le-ltb _ _ g, n) refl
-
-  pub third_all : length s < 4 + 3 * i + 3 → false ≡ bad_record s
-  third_all h = sym (e ∙ third_none (drop (4 + 3 * i) s) (omega (arith, length-drop (4 + 3 * i) s)))
+pub passing : (r : Refusal) (b : Bool) → b ≡ false → ◌≡◌ {A = Answer (Unit {0})} (Ok tt) (refused_if r b)
+passing r b e = sym (ap (refused_if r) e)
 
 -- the checks in their order, for the key sizes that a call takes
-module _ (s : List ℕ) (k : ℕ) (e : k ≡ key_size s) (x : Answer (Unit {0})) (t : Bool) (h : x ≡ first (check_list s t) refused (done tt)) where
+module _ (s : List ℕ) (k : ℕ) (e : k ≡ key_size s) (x : Answer (Unit {0})) (t : Bool) (h : x ≡ first (check_list s t) Err (Ok tt)) where
   pub for_block : (size : ℕ) → t ≡ is_not size k → x ≡ form_of s size
   for_block size g = h ∙ rw (g, e) refl
 

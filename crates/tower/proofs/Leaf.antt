@@ -1,7 +1,6 @@
 -- What the arithmetic of the code computes is the tower's: splits and joins by the laws of bits, products by one computed test a level. Assumes nothing.
 use mathlib.Core.Path.{◌≡◌, refl, sym, ap, ap₂, ◌∙◌}
-use mathlib.Core.Bool.{Bool}
-use mathlib.Core.List.{List, [], ◌∷◌}
+use mathlib.Core.List.{List, ◌∷◌}
 use Prim.Native.Nat.{ℕ, zero, suc, ◌+◌, ◌-◌, ◌*◌, ◌/◌, ◌%◌, ◌^◌, ◌<◌, ◌≤◌}
 use native.Mathlib.Nat.{mod-lt, mod-eq_of_lt, mod-mod, zero-lt-suc, zero-mul, one-mul}
 use native.Mathlib.Numerals.{add-one}
@@ -14,10 +13,40 @@ use lib.Pow as Pow
 use Rattle.fips197.specs.Field.{◌⊕◌, field}
 use Rattle.fips197.proofs.Below.{eq1, eq2}
 use Rattle.fips197.proofs.Xor.{assoc, zero_r, lt}
-use Rattle.refusal.specs.Answer.{Answer, done, refused, first}
 use Rattle.tower.specs.Tower.{tower, hi, lo, join, scaled_square, norm_over, product_over, inverse_over, bit_product, pair_product, nibble_product, added}
 use Rattle.tower.specs.Claims.{FieldLaws}
 use Rattle.tower.proofs.Split.{lo_lt, lo_small}
+
+-- the mask of k bits, of which the code has at most four
+mask_of : (k : ℕ) → k ≤ 4 → 1 * 2 ^ k % 256 ≡ 2 ^ k
+mask_of zero h = refl
+mask_of (suc zero) h = refl
+mask_of (suc (suc zero)) h = refl
+mask_of (suc (suc (suc zero))) h = refl
+mask_of (suc (suc (suc (suc zero)))) h = refl
+mask_of (suc (suc (suc (suc (suc k))))) h = absurd (omega arith)
+
+pub high_made : (k x : ℕ) → k ≤ 4 → bit_and (x / 2 ^ k) (1 * 2 ^ k % 256 - 1) ≡ hi k x
+unfolding hi
+high_made k x h = rw (mask_of k h) (and_mask (x / 2 ^ k) k)
+
+pub low_made : (k x : ℕ) → k ≤ 4 → bit_and x (1 * 2 ^ k % 256 - 1) ≡ lo k x
+unfolding lo
+low_made k x h = rw (mask_of k h) (and_mask x k)
+
+shifted_fits : (k x : ℕ) → k ≤ 4 → x < 2 ^ k → x * 2 ^ k < 256
+shifted_fits zero x h l = omega arith
+shifted_fits (suc zero) x h l = omega arith
+shifted_fits (suc (suc zero)) x h l = omega arith
+shifted_fits (suc (suc (suc zero))) x h l = omega arith
+shifted_fits (suc (suc (suc (suc zero)))) x h l = omega arith
+shifted_fits (suc (suc (suc (suc (suc k))))) x h l = absurd (omega arith)
+
+-- two halves joined by a shift
+pub halves_joined : (k h l x y : ℕ) → k ≤ 4 → x ≡ lo k h → y ≡ lo k l → bit_or (x * 2 ^ k % 256) y ≡ join k (lo k h) (lo k l)
+unfolding join
+halves_joined k h l x y e p q =
+    ap (λ (z : ℕ). bit_or z y) (mod-eq_of_lt (shifted_fits k x e (rw p (lo_lt k h)))) ∙ or_shifted x k y (rw q (lo_lt k l)) ∙ ap₂ (λ (a b : ℕ). a * 2 ^ k + b) p q
 
 -- two halves cut to k bits and joined by a shift
 pub join_made : (k h l : ℕ) → lo k h * 2 ^ k < 256 → bit_or (bit_and h (2 ^ k - 1) * 2 ^ k % 256) (bit_and l (2 ^ k - 1)) ≡ join k (lo k h) (lo k l)
@@ -110,8 +139,3 @@ change_next l x i sum v h li ev e =
 pub change_all : (l : List ℕ) (x i sum : ℕ) → length l ≡ 8 → 8 ≤ i → sum ⊕ added (drop i l) x ≡ added l x → sum ≡ added l x
 unfolding added
 change_all l x i sum h li e = rw (drop_of_length-le l {i = i} (omega arith), zero_r) at e
-
--- ---- what a pair or nibble call answers, from what its check and its operation answer
-
-pub answered : (x : Answer ℕ) (b b' : Bool) (v v' : ℕ) → x ≡ first ((1, b) ∷ []) refused (done v) → b ≡ b' → v ≡ v' → x ≡ first ((1, b') ∷ []) refused (done v')
-answered x b b' v v' e p q = e ∙ ap₂ (λ (c : Bool) (w : ℕ). first ((1, c) ∷ []) refused (done w)) p q

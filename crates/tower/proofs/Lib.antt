@@ -3,4 +3,3 @@ pub mod Level
 pub mod Basis
 pub mod Claims
 pub mod Leaf
-pub mod Unique

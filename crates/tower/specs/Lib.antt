@@ -1,3 +1,2 @@
 pub mod Tower
-pub mod Answers
 pub mod Claims

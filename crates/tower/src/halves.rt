@@ -1,39 +1,24 @@
-// Bytes, nibbles and pairs split and joined by shifts and masks.
-ghost use Rattle.std.specs.Prelude.{◌≡◌};
+// Bytes, nibbles and pairs split into halves of so many bits, and joined, by shifts and masks. A const parameter has no type that could carry its bound.
+ghost use Rattle.std.specs.Prelude.{◌≡◌, ◌≤◌};
 ghost use Rattle.tower.specs.Tower.{hi, lo, join};
 
-pub fn high_nibble(x: u8) -> u8
-    ensures { result ≡ hi 4 x }
+pub fn high<const BITS: u32>(x: u8) -> u8
+    requires { BITS ≤ 4 }
+    ensures { result ≡ hi BITS x }
 {
-    x >> 4
+    (x >> BITS) & ((1 << BITS) - 1)
 }
 
-pub fn low_nibble(x: u8) -> u8
-    ensures { result ≡ lo 4 x }
+pub fn low<const BITS: u32>(x: u8) -> u8
+    requires { BITS ≤ 4 }
+    ensures { result ≡ lo BITS x }
 {
-    x & 15
+    x & ((1 << BITS) - 1)
 }
 
-pub fn join_nibbles(high: u8, low: u8) -> u8
-    ensures { result ≡ join 4 (lo 4 high) (lo 4 low) }
+pub fn joined<const BITS: u32>(h: u8, l: u8) -> u8
+    requires { BITS ≤ 4 }
+    ensures { result ≡ join BITS (lo BITS h) (lo BITS l) }
 {
-    ((high & 15) << 4) | (low & 15)
-}
-
-pub fn high_pair(x: u8) -> u8
-    ensures { result ≡ hi 2 x }
-{
-    (x >> 2) & 3
-}
-
-pub fn low_pair(x: u8) -> u8
-    ensures { result ≡ lo 2 x }
-{
-    x & 3
-}
-
-pub fn join_pairs(high: u8, low: u8) -> u8
-    ensures { result ≡ join 2 (lo 2 high) (lo 2 low) }
-{
-    ((high & 3) << 2) | (low & 3)
+    (low::<BITS>(h) << BITS) | low::<BITS>(l)
 }

@@ -1,5 +1,5 @@
 // Words of four bytes, as key expansion makes them: RotWord, SubWord, the sum, and the powers of x for Rcon.
-#![tactic(auto)]
+#![tactic(auto, unfolding(fips197::specs::Cipher::rot_word))]
 
 ghost use Rattle.std.specs.Prelude.{◌≡◌};
 ghost use Rattle.fips197.specs.Cipher.{◌⊞◌, rot_word, sub_word, power};
@@ -8,11 +8,9 @@ ghost use Rattle.fips197.specs.Cipher.{◌⊞◌, rot_word, sub_word, power};
 pub fn power(j: usize) -> u8
     ensures { result ≡ power j }
 {
-    let mut i: usize = 0;
     let mut b: u8 = 0x01;
-    while i < j {
+    for _ in 0..j {
         b = columns::double(b);
-        i += 1;
     }
     b
 }

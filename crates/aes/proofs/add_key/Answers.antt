@@ -1,23 +1,16 @@
--- `aes::add_key` meets its contract: the loop's invariant: the bytes passed are sums, the rest as they were. Assumes nothing.
+-- `aes::add_key` meets its contract: the bytes passed are sums, the rest as they were. Assumes nothing.
 use native.Mathlib.Omega.{arith}
-use lib.ListN.{length-set}
 use Rattle.fips197.proofs.State.{length_plus}
 use Rattle.aes.proofs.Front.{front_none, front_step, front_done, sum_next}
 use Rattle.aes.proofs.add_key.Goals as goal
 
 pub loop-i-init : goal.loop-i-init
-loop-i-init c = (omega arith, (omega arith, front_none _ _))
+loop-i-init c = front_none _ _
 
 pub loop-i-preserved : goal.loop-i-preserved
 loop-i-preserved c =
-    let x = c.loop-i in (
-      omega arith,
-      (
-        simp length-set (omega arith),
-        front_step _ _ _ _ x.invariant.1.1 (length_plus _ _ (omega arith)) _ (omega arith)
-            (sum_next _ _ _ _ x.invariant.1.1 (omega arith) (omega arith)),
-      ),
-    )
+    let known = c.loop-i.invariant in
+    front_step _ _ _ _ known (length_plus _ _ (omega arith)) _ (omega arith) (sum_next _ _ _ _ known (omega arith) (omega arith))
 
 pub returns : goal.returns
-returns c = front_done _ _ _ _ c.loop-i.invariant.1.1 (length_plus _ _ (omega arith)) (omega arith)
+returns c = front_done _ _ _ _ c.loop-i.invariant (length_plus _ _ (omega arith)) (omega arith)

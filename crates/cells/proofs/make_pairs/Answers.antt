@@ -12,8 +12,8 @@ pub returns : goal.returns
 unfolding masked laid cells_after summed
 returns c a m masks b e =
     let ρ = c.args.«record» in
-    let b1 = c.high_pair-b1.ensures ∙ ap (hi 2) b in
-    let b0 = c.low_pair-b0.ensures ∙ ap (lo 2) b in
+    let b1 = c.high-b1.ensures ∙ ap (hi 2) b in
+    let b0 = c.low-b0.ensures ∙ ap (lo 2) b in
     let p15 = c.add-p15.ensures.0 ∙ ap₂ ◌⊕◌ b1 b0 in
     let p16 = c.pair_square-p16.ensures ∙ ap (scaled_square pair_product 2) p15 in
     let p40 = c.product-p40.ensures.0 ∙ pair_over _ _ masks.7 _ ∙ ap₂ pair_product b1 refl in
@@ -23,7 +23,7 @@ returns c a m masks b e =
     let p42 = c.product-p42.ensures.0 ∙ pair_over _ _ masks.7 _ ∙ ap₂ pair_product masks.2 refl in
     let p34 = c.product-p34.ensures.0 ∙ pair_over _ _ masks.7 _ ∙ ap₂ pair_product masks.3 refl in
     let p20 = c.product-p20.ensures.0 ∙ c.pair_row-row_b1.ensures _ ∙ ap₂ pair_product b1 masks.3 in
-    let p23 = c.add-p23.ensures.0 ∙ ap₂ ◌⊕◌ c.wide.ensures p16 in
+    let p23 = c.add-p23.ensures.0 ∙ ap₂ ◌⊕◌ c.from.ensures p16 in
     let p24 = c.add-p24.ensures.0 ∙ ap₂ ◌⊕◌ p23 masks.10 in
     let l1 = lay (record_points a m ρ) (cells_after 2 a m ρ) [] 15 e (p15) c.add-p15.ensures.1 in
     let l2 = lay (record_points a m ρ) (cells_after 2 a m ρ) (15 ∷ []) 16 l1 (p16) c.put.ensures in

@@ -1,13 +1,9 @@
 -- `cells::write_points` meets its contract: the first i points are put, each from its cell.
 use mathlib.Core.Path.{◌≡◌}
 use mathlib.Core.List.{List}
-use Prim.Native.Nat.{ℕ, ◌≤◌, ◌-◌}
-use lib.ListN.{length}
+use Prim.Native.Nat.{ℕ}
 use Rattle.cells.specs.Cells.{recorded}
 use Rattle.cells.proofs.write_points.Given as goal
 
 abbrev pub invariant-loop-i : goal.invariant-loop-i
-invariant-loop-i l = (l.i ≤ 62) × (◌≡◌ {A = List ℕ} l.points (recorded l.i l.cells l.initial.points)) × (length {A = ℕ} l.points ≡ 62)
-
-abbrev pub decreases-loop-i : goal.decreases-loop-i
-decreases-loop-i l = 62 - l.i
+invariant-loop-i l = ◌≡◌ {A = List ℕ} l.points (recorded l.i l.cells l.initial.points)

@@ -1,9 +1,9 @@
--- `pool_checks::add` meets its contract: from what adding and taking refuse alike, then the strip's own and 14. Assumes nothing.
-use Rattle.pool_checks.proofs.Admitted.{held_back, may_add}
+-- `pool_checks::add` meets its contract: where the strip's own check refuses, from what has passed before it. Assumes nothing.
+use Rattle.std.proofs.lemmas.Result.{err_from_is_err_and}
+use Rattle.pool_checks.proofs.Own.{own_refused}
 use Rattle.pool_checks.proofs.add.Goals as goal
 
-pub returns-in_default : goal.returns-in_default
-returns-in_default c = held_back _ _ _ c.check_lent.ensures _ c.read-master.ensures _ c.check_sender-sender.ensures _ _ c.in_default.is
-
-pub returns : goal.returns
-returns c = may_add _ _ _ c.check_lent.ensures _ c.read-master.ensures _ c.check_sender-sender.ensures c.in-Done.is _ _ c.check_strip.ensures
+pub returns-in_err-check_own : goal.returns-in_err-check_own
+returns-in_err-check_own c =
+    let p = err_from_is_err_and c.from_residual-in_err-check_own.result c.from_residual-in_err-check_own.ensures.1 in
+    rw (p.1, p.2, ← c.read-master.ensures) (own_refused c.args.strip.now _ _ c.in_err-check_own.ensures _ _ _ _ c.in_ok-check_lent.ensures c.in_ok-check_not_standby.ensures c.in_ok-check_sending.ensures)

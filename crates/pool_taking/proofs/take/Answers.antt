@@ -1,15 +1,19 @@
 -- `pool_taking::take` meets its contract: from its check, then its step. Assumes nothing.
-use Rattle.pool_taking.specs.Taking.{take_of}
+use mathlib.Core.Path.{refl}
+use Rattle.std.proofs.lemmas.Result.{err_from_is_err_and}
 use Rattle.refusal.proofs.First.{call_refused, call_passes, call_done}
+use Rattle.pool_taking.specs.Taking.{take_of}
 use Rattle.pool_taking.proofs.take.Goals as goal
 
-pub returns-in_default : goal.returns-in_default
+pub returns-in_err-take : goal.returns-in_err-take
 unfolding take_of
-returns-in_default c = call_refused _ (c.args.state.now, (c.args.rooms.now, (c.args.number.now, c.args.strip.now))) _ _ c.take-checked.ensures _ c.in_default.is
+returns-in_err-take c =
+    let p = err_from_is_err_and c.from_residual.result c.from_residual.ensures.1 in
+    rw (p.1, p.2) (call_refused _ (c.args.state.now, (c.args.rooms.now, (c.args.number.now, c.args.strip.now))) _ _ c.in_err-take.ensures _ refl)
 
-pub take-requires : goal.take-requires
-take-requires c = call_passes _ _ c.take-checked.ensures c.in-Done.is
+pub take-requires-2 : goal.take-requires-2
+take-requires-2 c = call_passes _ _ c.in_ok-take.ensures _ refl
 
 pub returns : goal.returns
 unfolding take_of
-returns c = call_done _ (c.args.state.now, (c.args.rooms.now, (c.args.number.now, c.args.strip.now))) _ _ c.take-checked.ensures c.in-Done.is _ c.take.ensures
+returns c = call_done _ (c.args.state.now, (c.args.rooms.now, (c.args.number.now, c.args.strip.now))) _ _ c.in_ok-take.ensures _ refl _ c.take-2.ensures

@@ -8,5 +8,5 @@ use Rattle.tower.proofs.byte_inverse.Goals as goal
 pub returns : goal.returns
 unfolding byte_inverse ◌⊕◌
 returns c =
-    inverse_made 4 nibble_product 0xf nibble_inverse nibble_level 1 _ c.high_nibble-x1.ensures c.low_nibble-x0.ensures c.nibble_times-p.ensures c.nibble_square-s.ensures
-    c.invert_nibble-b.ensures c.nibble_times-h.ensures c.nibble_times-l.ensures c.join_nibbles.ensures
+    inverse_made 4 nibble_product 0xf nibble_inverse nibble_level 1 _ c.high-x1.ensures c.low-x0.ensures c.nibble_times-p.ensures c.nibble_square-s.ensures
+    c.invert_nibble-b.ensures c.nibble_times-h.ensures c.nibble_times-l.ensures c.joined.ensures

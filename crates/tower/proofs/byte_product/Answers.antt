@@ -8,5 +8,5 @@ use Rattle.tower.proofs.byte_product.Goals as goal
 pub returns : goal.returns
 unfolding byte_product ◌⊕◌
 returns c =
-    product_made 4 nibble_product 0xf nibble_inverse nibble_level 1 _ _ c.high_nibble-x1.ensures c.low_nibble-x0.ensures c.high_nibble-y1.ensures c.low_nibble-y0.ensures
-    c.nibble_times-m.ensures c.nibble_times-k.ensures c.nibble_times-h.ensures c.nibble_times-l.ensures c.join_nibbles.ensures
+    product_made 4 nibble_product 0xf nibble_inverse nibble_level 1 _ _ c.high-x1.ensures c.low-x0.ensures c.high-y1.ensures c.low-y0.ensures
+    c.nibble_times-m.ensures c.nibble_times-k.ensures c.nibble_times-h.ensures c.nibble_times-l.ensures c.joined.ensures

@@ -8,5 +8,5 @@ use Rattle.tower.proofs.invert_nibble.Goals as goal
 pub returns : goal.returns
 unfolding nibble_inverse pair_inverse ◌⊕◌
 returns c =
-    inverse_made 2 pair_product 3 pair_inverse pair_level 2 _ c.high_pair-x1.ensures c.low_pair-x0.ensures c.pair_times-p.ensures c.pair_square-s.ensures c.exchange-b.ensures
-    c.pair_times-h.ensures c.pair_times-l.ensures c.join_pairs.ensures
+    inverse_made 2 pair_product 3 pair_inverse pair_level 2 _ c.high-x1.ensures c.low-x0.ensures c.pair_times-p.ensures c.pair_square-s.ensures c.exchange-b.ensures
+    c.pair_times-h.ensures c.pair_times-l.ensures c.joined.ensures

@@ -1,10 +1,9 @@
--- `words::power` meets its contract: the loop's invariant: so far, x to the power of the turns made. Assumes nothing.
-use native.Mathlib.Omega.{arith}
+-- `words::power` meets its contract: from the doubling of each turn. Assumes nothing.
 use Rattle.words.proofs.Words.{power_none, power_more}
 use Rattle.words.proofs.power.Goals as goal
 
-pub loop-i-init : goal.loop-i-init
-loop-i-init c = (omega arith, power_none)
+pub loop-init : goal.loop-init
+loop-init c = power_none
 
-pub loop-i-preserved : goal.loop-i-preserved
-loop-i-preserved c = (omega arith, power_more _ _ _ c.loop-i.invariant.1 c.double-b.ensures)
+pub loop-preserved : goal.loop-preserved
+loop-preserved c = power_more _ _ _ c.loop.invariant c.double-b.ensures

@@ -7,4 +7,4 @@ use Rattle.cells.proofs.lookup.pair_row.Goals as goal
 
 pub returns : goal.returns
 unfolding tower field entry
-returns c = pair_row_made _ _ tt c.args.x
+returns c y = rw c.from-v.ensures (pair_row_made _ _ tt c.args.x y)

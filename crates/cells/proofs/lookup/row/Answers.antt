@@ -7,4 +7,4 @@ use Rattle.cells.proofs.lookup.row.Goals as goal
 
 pub returns : goal.returns
 unfolding tower field entry
-returns c = row_made _ _ _ _ tt c.args.x
+returns c y = rw c.from-v.ensures (row_made _ _ _ _ tt c.args.x y)

@@ -1,2 +1,0 @@
-pub mod Unique
-mod Answered

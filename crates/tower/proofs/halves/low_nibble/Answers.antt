@@ -1,8 +1,0 @@
--- `tower::halves::low_nibble` meets its contract: a mask is a remainder. Assumes nothing.
-use lib.Bits.{and_mask}
-use Rattle.tower.specs.Tower.{lo}
-use Rattle.tower.proofs.halves.low_nibble.Goals as goal
-
-pub returns : goal.returns
-unfolding lo
-returns c = and_mask c.args.x 4
