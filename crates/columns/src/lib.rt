@@ -22,7 +22,7 @@ fn mix_byte(a: u8, b: u8, c: u8, d: u8) -> u8
 }
 
 // It is a call of its own, so that the compiler makes no vector of a state: a vector register would go from the data's columns to the mask's.
-// A column is lent as a part of the state, as the rules have it; as an array it would have to be made of that part at each of four calls.
+// A column is lent as a part of the state, as the rules have it: an array in its place would be a case more at each of four calls, which the bound rules out.
 #[inline(never)]
 fn mix_column(column: &mut [u8])
     requires { length column.old ≡ 4 }

@@ -16,7 +16,7 @@ fn round_constant(j: usize) -> [u8; 4]
     [words::power(j - 1), 0, 0, 0]
 }
 
-// Word i of those written.
+// Word i of those written. `first_chunk` and `try_from` would answer a case that the bound rules out, so the four bytes stand one by one.
 fn word(w: &[u8], i: usize) -> [u8; 4]
     requires { 4 * i + 4 ≤ length w.now }
     ensures { result ≡ word w.now i }

@@ -32,7 +32,7 @@ impl Message {
     }
 }
 
-// The first eight bytes of every message; an acknowledgement has no more.
+// The first eight bytes of every message; an acknowledgement has no more. The library joins arrays into a Vec alone, so they stand one by one.
 // The kind is any byte, since this is a public call that took any.
 pub fn front_bytes(follows: u16, kind: u8, sequence: u32) -> [u8; 8]
     ensures { result ≡ front_bytes follows kind sequence }
@@ -57,7 +57,7 @@ fn is_framed(part: &[u8]) -> bool
     strip::check_framing(part).is_ok() && part[2] == 1
 }
 
-// Any bytes are read; what is no message is none.
+// Any bytes are read; what is no message is none. There is no error to tell, so it is an Option and no TryFrom.
 pub fn read(part: &[u8]) -> Option<Message>
     ensures { result ≡ read_of part.now }
 {

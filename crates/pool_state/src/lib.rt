@@ -41,7 +41,7 @@ impl State {
         }
     }
 
-    // No method of the library joins arrays, so the nine stand one by one.
+    // The library joins arrays into a Vec alone, so the nine bytes stand one by one.
     fn bytes(self) -> [u8; 9]
         ensures { result ≡ state_bytes self }
     {
