@@ -15,7 +15,7 @@ const CHUNKS: usize = 256;
 const MOST: u64 = 1000000000;
 
 // How many vectors passed, and how many lines failed.
-#[derive(Clone, Copy)]
+#[derive(Clone, Copy, Default)]
 struct Counts {
     passed: u64,
     failed: u64,
@@ -41,10 +41,7 @@ impl fmt::Display for Counts {
 
 // One carriage return before the newline is no part of the line. Every line that is not passed over has to be a vector that passes.
 fn count(text: &[u8]) -> Counts {
-    let mut counts = Counts {
-        passed: 0,
-        failed: 0,
-    };
+    let mut counts = Counts::default();
     for line in text.split(|byte| *byte == b'\n') {
         let line = line.strip_suffix(b"\r").unwrap_or(line);
         if !reading::is_skipped(line) {

@@ -20,7 +20,7 @@ pub struct Master {
     pub rooms: [u8; 43264],
 }
 
-// How long a strip is for keys of a size. It is asked of a literal too, so its bound is no type's.
+// How long a strip is for keys of a size. `stock_one` adds strips of a literal size, so its bound is no type's.
 fn size_of(key_size: u8) -> usize
     requires { key_size ≤ 32 }
     ensures { (292 ≤ result) × (result ≤ 676) }
