@@ -58,6 +58,7 @@ fn is_framed(part: &[u8]) -> bool
 }
 
 // Any bytes are read; what is no message is none. There is no error to tell, so it is an Option and no TryFrom.
+// A number is read where the kind has one, since by then the length is known.
 pub fn read(part: &[u8]) -> Option<Message>
     ensures { result ≡ read_of part.now }
 {
@@ -65,12 +66,11 @@ pub fn read(part: &[u8]) -> Option<Message>
         return None;
     }
     let size = part.len();
-    let sequence = pool_numbers::number_at(part, 4);
-    let number = pool_numbers::number_at(part, 8);
+    let number = |at| pool_numbers::number_at(part, at);
     match part[3] {
-        1 if 12 <= size => Some(Message::Adds(sequence, number)),
-        2 if size == 12 => Some(Message::Takes(sequence, number)),
-        3 if size == 8 => Some(Message::Acknowledges(sequence)),
+        1 if 12 <= size => Some(Message::Adds(number(4), number(8))),
+        2 if size == 12 => Some(Message::Takes(number(4), number(8))),
+        3 if size == 8 => Some(Message::Acknowledges(number(4))),
         _ => None,
     }
 }
