@@ -1,14 +1,12 @@
 -- A length found among those wanted, as a slice finds it and as `none_of` has it. Assumes nothing.
 use Prim.Native.Nat.{ℕ}
-use mathlib.Core.Path.{◌≡◌, refl, sym, ap, ◌∙◌}
+use mathlib.Core.Path.{◌≡◌, refl, sym, ◌∙◌}
 use mathlib.Core.List.{List, [], ◌∷◌}
 use mathlib.Core.Bool.{Bool, true, false, not, ◌&&◌, ◌||◌}
 use lib.Dec.{eqb}
 use borrow.Author.Tests.{eqb-true, eq-eqb}
 use Rattle.std.specs.List.{list_any}
-use Rattle.std.specs.Prelude.{Ok, Err}
-use Rattle.refusal.specs.declared.Refusal.{Refusal}
-use Rattle.refusal.specs.Answer.{Answer, refused_if, none_of}
+use Rattle.refusal.specs.Answer.{none_of}
 
 eqb_turn : (x y : ℕ) → eqb x y ≡ eqb y x
 eqb_turn x y = split (eqb x y) (eqb y x) refl refl
@@ -26,16 +24,16 @@ pub among : (wanted : List ℕ) (x : ℕ) → list_any (λ y. eqb y x) wanted �
 among [] x = refl
 among (w ∷ ws) x = rw (eqb_turn w x, among ws x) (either (eqb x w) (none_of ws x))
 
-module _ (wanted : List ℕ) (x : ℕ) (found : Bool) (e : found ≡ list_any (λ y. eqb y x) wanted) where
-  turned : (b : Bool) → found ≡ b → none_of wanted x ≡ not b
-  turned b f = split (none_of wanted x) (sym (among wanted x) ∙ sym e ∙ f)
-    where
-      split : (n : Bool) → not n ≡ b → n ≡ not b
-      split true g = ap not g
-      split false g = ap not g
+pub there : (wanted : List ℕ) (x : ℕ) → list_any (λ y. eqb y x) wanted ≡ true → none_of wanted x ≡ false
+there wanted x f = split (none_of wanted x) (sym (among wanted x) ∙ f)
+  where
+    split : (n : Bool) → not n ≡ true → n ≡ false
+    split true g = sym g
+    split false g = refl
 
-  pub is_among : (r : Refusal) → found ≡ true → ◌≡◌ {A = Answer (Unit {0})} (Ok tt) (refused_if r (none_of wanted x))
-  is_among r f = rw (turned true f) refl
-
-  pub is_none : (r : Refusal) → found ≡ false → ◌≡◌ {A = Answer (Unit {0})} (Err r) (refused_if r (none_of wanted x))
-  is_none r f = rw (turned false f) refl
+pub absent : (wanted : List ℕ) (x : ℕ) → list_any (λ y. eqb y x) wanted ≡ false → none_of wanted x ≡ true
+absent wanted x f = split (none_of wanted x) (sym (among wanted x) ∙ f)
+  where
+    split : (n : Bool) → not n ≡ false → n ≡ true
+    split true g = refl
+    split false g = sym g

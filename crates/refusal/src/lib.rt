@@ -117,6 +117,8 @@ pub fn check_length(length: usize, wanted: usize, refusal: Refusal) -> Result<()
 }
 
 // Refuses a length that is none of those wanted.
+// The proof names no test, so that a wrong program that asks another is refused for what it asks.
+#[tactic(auto, using(crate::proofs::Lengths::there, crate::proofs::Lengths::absent))]
 pub fn check_lengths(length: usize, wanted: &[usize], refusal: Refusal) -> Result<(), Refusal>
     ensures { result ≡ refused_if refusal (none_of wanted.now length) }
 {
