@@ -5,11 +5,18 @@
 mod generator;
 mod vector;
 
-use std::io::Read;
+use arrayvec::ArrayVec;
+use reading::Program;
+use std::io::{Read, Write};
 use std::{fmt, io};
 
-// A file is read in at most so many chunks.
+// A line holds at most 132 characters and a carriage return; one byte more shows that it is too long.
+const LINE: usize = 134;
+
+// A file is read in at most so many chunks of so many bytes.
 const CHUNKS: usize = 256;
+
+const CHUNK: usize = 65536;
 
 // A count stays where it is once it is so high.
 const MOST: u64 = 1000000000;
@@ -31,6 +38,14 @@ impl Counts {
         };
         *count = count.saturating_add(1).min(MOST);
     }
+
+    // One carriage return before the newline is no part of the line. Every line that is not passed over has to be a vector that passes.
+    fn judge(&mut self, line: &[u8]) {
+        let line = line.strip_suffix(b"\r").unwrap_or(line);
+        if !reading::is_skipped(line) {
+            self.add(vector::passes(line));
+        }
+    }
 }
 
 impl fmt::Display for Counts {
@@ -39,33 +54,52 @@ impl fmt::Display for Counts {
     }
 }
 
-// One carriage return before the newline is no part of the line. Every line that is not passed over has to be a vector that passes.
-fn count(text: &[u8]) -> Counts {
+// The lines of a file, as far as it is read. What does not fit a line is dropped, the line being too long already, so that a file of any size is read in the same memory.
+fn count(file: &mut impl Read) -> Counts {
     let mut counts = Counts::default();
-    for line in text.split(|byte| *byte == b'\n') {
-        let line = line.strip_suffix(b"\r").unwrap_or(line);
-        if !reading::is_skipped(line) {
-            counts.add(vector::passes(line));
+    let mut line = ArrayVec::<u8, LINE>::new();
+    let mut chunk = [0u8; CHUNK];
+    for _ in 0..CHUNKS {
+        let chunk = reading::read_chunk(file, &mut chunk);
+        // The first part of a chunk goes on with the line that stands open; each other begins a line.
+        for (newlines, part) in chunk.split(|byte| *byte == b'\n').enumerate() {
+            if newlines > 0 {
+                counts.judge(line.as_slice());
+                line.clear();
+            }
+            let _ = line.write(part);
         }
     }
+    counts.judge(line.as_slice());
     counts
 }
 
-// What is left of a file that is too long, or cannot be read to its end, is one failure more.
-fn run(rt: &(impl Print + AllocGlobal), mut file: impl Read + Drop) -> io::Result<()> {
-    let text = reading::read_chunks(rt.alloc(), &mut file, CHUNKS)?;
-    let mut counts = count(text.as_slice());
-    if !reading::at_end(&mut file) {
-        counts.add(false);
-    }
-    println!(rt; "{counts}")
+// The program, and where it prints.
+#[derive(Clone, Copy)]
+struct KnownAnswers<'a, R> {
+    rt: &'a R,
 }
 
-// A file that cannot be opened is one failure.
+impl<R: Print, F: Read + Drop> Program<F> for KnownAnswers<'_, R> {
+    type Error = io::Error;
+
+    // What is left of a file that is too long, or cannot be read to its end, is one failure more.
+    fn read(self, mut file: F) -> io::Result<()> {
+        let mut counts = count(&mut file);
+        if !reading::at_end(&mut file) {
+            counts.add(false);
+        }
+        println!(self.rt; "{counts}")
+    }
+
+    // A file that cannot be opened is one failure.
+    fn go_without(self) -> io::Result<()> {
+        let mut counts = Counts::default();
+        counts.add(false);
+        println!(self.rt; "{counts}")
+    }
+}
+
 fn main(rt: HostRuntime) -> io::Result<()> {
-    let unopened = Counts {
-        passed: 0,
-        failed: 1,
-    };
-    reading::with_file(&rt, |file| run(&rt, file), || println!(rt; "{unopened}"))
+    reading::with_file(&rt, KnownAnswers { rt: &rt })
 }

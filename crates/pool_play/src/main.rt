@@ -8,29 +8,48 @@ mod report;
 mod steps;
 mod words;
 
+use reading::Program;
 use std::io;
 use std::io::Read;
 use steps::Play;
 
-// A script is at most one chunk long.
-const CHUNKS: usize = 1;
+// A script has at most so many bytes.
+const SCRIPT: usize = 65536;
 
-// A line is a step, whose line of output ends with what each master holds then, or is said to be none.
-fn play_line(rt: &impl Print, play: &mut Play, number: usize, line: &str) -> io::Result<()> {
-    let Some(step) = words::read(line) else {
-        return println!(rt; "line {number} is no step");
+fn no_step(rt: &impl Print, number: usize) -> io::Result<()> {
+    println!(rt; "line {number} is no step")
+}
+
+// A line is a step, whose line of output ends with what each master holds then, or is said to be none. No byte of a step is none of a text.
+fn play_line(rt: &impl Print, play: &mut Play, number: usize, line: &[u8]) -> io::Result<()> {
+    let Ok(text) = str::from_utf8(line) else {
+        return no_step(rt, number);
     };
-    print!(rt; "{number} {line}: ")?;
+    let Some(step) = words::read(text) else {
+        return no_step(rt, number);
+    };
+    print!(rt; "{number} {text}: ")?;
     play.step(rt, step)?;
     report::holdings(rt, play)
 }
 
-// Blank lines and comments are passed over. The spaces and the carriage return at a line's end are no part of it.
-fn play_script(rt: &(impl Print + AllocGlobal), text: &str) -> io::Result<()> {
-    let mut play = Play::new(rt.alloc());
-    for (before, line) in text.split('\n').enumerate() {
-        let line = line.trim_end_matches([' ', '\t', '\r']);
-        if !reading::is_skipped(line.as_bytes()) {
+// A line without the spaces and the carriage return at its end.
+fn trimmed(line: &[u8]) -> &[u8] {
+    let last = line
+        .iter()
+        .rposition(|byte| !matches!(byte, b' ' | b'\t' | b'\r'));
+    match last {
+        Some(last) => &line[..last + 1],
+        None => &[],
+    }
+}
+
+// Blank lines and comments are passed over.
+fn play_script(rt: &impl Print, script: &[u8]) -> io::Result<()> {
+    let mut play = Play::new();
+    for (before, line) in script.split(|byte| *byte == b'\n').enumerate() {
+        let line = trimmed(line);
+        if !reading::is_skipped(line) {
             play_line(rt, &mut play, before + 1, line)?;
         }
     }
@@ -41,17 +60,30 @@ fn unreadable(rt: &impl Print) -> io::Result<()> {
     println!(rt; "the script cannot be read")
 }
 
-// A byte that is no text stands in no step, so another character may stand in its place.
-fn run(rt: &(impl Print + AllocGlobal), mut file: impl Read + Drop) -> io::Result<()> {
-    let script = reading::read_chunks(rt.alloc(), &mut file, CHUNKS)?;
-    if reading::at_end(&mut file) {
-        let text = String::from_utf8_lossy(rt.alloc(), script.as_slice())?;
-        play_script(rt, text.as_str())
-    } else {
-        unreadable(rt)
+// The program, and where it prints.
+#[derive(Clone, Copy)]
+struct PoolPlay<'a, R> {
+    rt: &'a R,
+}
+
+impl<R: Print, F: Read + Drop> Program<F> for PoolPlay<'_, R> {
+    type Error = io::Error;
+
+    fn read(self, mut file: F) -> io::Result<()> {
+        let mut script = [0u8; SCRIPT];
+        let script = reading::read_chunk(&mut file, &mut script);
+        if reading::at_end(&mut file) {
+            play_script(self.rt, script)
+        } else {
+            unreadable(self.rt)
+        }
+    }
+
+    fn go_without(self) -> io::Result<()> {
+        unreadable(self.rt)
     }
 }
 
 fn main(rt: HostRuntime) -> io::Result<()> {
-    reading::with_file(&rt, |file| run(&rt, file), || unreadable(&rt))
+    reading::with_file(&rt, PoolPlay { rt: &rt })
 }

@@ -43,7 +43,6 @@ pub fn holdings(rt: &impl Print, play: &Play) -> io::Result<()> {
 pub fn summary(rt: &impl Print, tally: &Tally) -> io::Result<()> {
     println!(rt;
         "{} numbers handed out, {} of them twice",
-        tally.numbers.len(),
-        tally.twice
+        tally.numbers, tally.twice
     )
 }

@@ -5,15 +5,34 @@ use crate::report;
 use crate::words::{Side, Step};
 use pool_state::Role;
 use refusal::Refusal;
-use std::alloc::Global;
-use std::collections::BTreeSet;
-use std::io;
+use std::{io, mem};
 
-// Which numbers were handed out, and how many of them twice.
-#[derive(Drop)]
+// Which numbers were handed out, how many, and how many of them twice. A script has at most 65,536 characters and a taking takes five, so that every number has a place.
+#[derive(Clone, Copy)]
 pub struct Tally {
-    pub numbers: BTreeSet<u32>,
+    seen: [bool; 16384],
+    pub numbers: u32,
     pub twice: u32,
+}
+
+impl Tally {
+    const EMPTY: Tally = Tally {
+        seen: [false; 16384],
+        numbers: 0,
+        twice: 0,
+    };
+
+    // A number was handed out.
+    fn note(&mut self, number: u32) {
+        let Some(seen) = self.seen.get_mut(number as usize) else {
+            return;
+        };
+        if mem::replace(seen, true) {
+            self.twice = self.twice.saturating_add(1);
+        } else {
+            self.numbers = self.numbers.saturating_add(1);
+        }
+    }
 }
 
 // A master, and what its host has stored of it last.
@@ -61,16 +80,13 @@ pub struct Play {
 }
 
 impl Play {
-    pub fn new(alloc: Global) -> Play {
+    pub fn new() -> Play {
         Play {
             active: Cabinet::new(Role::Active),
             standby: Cabinet::new(Role::Standby),
             messages: Link::EMPTY,
             acknowledgements: Link::EMPTY,
-            tally: Tally {
-                numbers: BTreeSet::new(alloc),
-                twice: 0,
-            },
+            tally: Tally::EMPTY,
             made: 0,
             power: true,
             hasty: false,
@@ -110,9 +126,7 @@ impl Play {
         };
         self.leave(rt, side)?;
         report::strip(rt, &strip, side)?;
-        if !self.tally.numbers.insert(strip.number)? {
-            self.tally.twice = self.tally.twice.saturating_add(1);
-        }
+        self.tally.note(strip.number);
         Ok(())
     }
 

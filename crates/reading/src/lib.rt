@@ -1,12 +1,10 @@
-// What the programs do with the file that their first argument names: open it, read it, and pass over what is no line of theirs.
+// What the programs do with the file that their first argument names: open it, read it in chunks, and pass over what is no line of theirs.
 #![tactic(auto)]
 
-ghost use Rattle.std.specs.Prelude.{◌≡◌, ◌≤◌, ◌*◌, ◌||◌, ◌==◌, ◌⊎◌, length, slice_index, vec_len, IfOk};
+ghost use Rattle.std.specs.Prelude.{◌≡◌, ◌≤◌, ◌||◌, ◌==◌, ◌⊎◌, length, slice_index};
 
-use std::alloc::{AllocError, Global};
 use std::env::Env;
 use std::fs::File;
-use std::io;
 use std::io::Read;
 use std::rt::Files;
 
@@ -16,28 +14,40 @@ mod tests;
 // No path of the system is longer.
 const PATH: usize = 4096;
 
-// A file is read in chunks of so many bytes.
-const CHUNK: usize = 65536;
+// What a program does with the file that its first argument names, and what it does where there is none. Neither asks anything of its caller, and what they give is any answer unless a program says more.
+pub trait Program<F> {
+    ghost use Rattle.std.specs.Prelude.{Result, ⊤};
 
-// Reads the file that the first argument names; where it cannot be opened, standard error has the reason and the answer is another.
+    type Error;
+
+    ghost read_gives: { Self → F → Result (Unit {0}) Self.Error → Type 0 } = { λ _ _ _. ⊤ };
+
+    ghost go_without_gives: { Self → Result (Unit {0}) Self.Error → Type 0 } = { λ _ _. ⊤ };
+
+    fn read(self, file: F) -> Result<(), Self::Error>
+        ensures { read_gives self file result };
+
+    fn go_without(self) -> Result<(), Self::Error>
+        ensures { go_without_gives self result };
+}
+
+// Opens the file that the first argument names; where it cannot be opened, standard error has the reason.
 // A name that is missing, too long for a path or no text is taken for the empty one, which no file has; std's list of all arguments would fail at any of them that is no text.
-pub fn with_file<R, F, O>(rt: &R, read: F, otherwise: O) -> io::Result<()>
+pub fn with_file<R, P>(rt: &R, program: P) -> Result<(), P::Error>
 where
     R: Env + Files + Eprint,
-    F: FnOnce(R::File) -> io::Result<()> + Drop,
-    O: FnOnce() -> io::Result<()> + Drop,
-    requires read { F.IsAlwaysCallable read }
-    requires otherwise { O.IsAlwaysCallable otherwise }
-    ensures { ((file : R.File) × F.post read file result) ⊎ O.post otherwise result }
+    P: Program<R::File> + Drop,
+    P::Error: Drop,
+    ensures { ((file : R.File) × P.read_gives program file result) ⊎ P.go_without_gives program result }
 {
     let mut name = [0u8; PATH];
     let n = rt.arg(1, &mut name).unwrap_or(0);
     let path = str::from_utf8(&name[..n]).unwrap_or("");
     match File::open(rt, path) {
-        Ok(file) => read(file),
+        Ok(file) => program.read(file),
         Err(error) => {
             let _ = eprintln!(rt; "{path}: {error}");
-            otherwise()
+            program.go_without()
         }
     }
 }
@@ -47,27 +57,21 @@ pub fn read_full(file: &mut impl Read, buffer: &mut [u8]) -> usize
     ensures { result ≤ length buffer.new }
 {
     let mut done = 0;
-    while let Ok(n @ 1..) = file.read(&mut buffer[done..]) {
+    while done < buffer.len() {
+        let Ok(n @ 1..) = file.read(&mut buffer[done..]) else {
+            break;
+        };
         done += n;
     }
     done
 }
 
-// The bytes of a file, at most so many chunks of them; a chunk and its count are the form of `Read::read`. A read that fails or finds the end leaves its chunk short, and the next one goes on.
-pub fn read_chunks(
-    alloc: Global,
-    file: &mut impl Read,
-    chunks: usize,
-) -> Result<Vec<u8>, AllocError>
-    ensures { IfOk result (λ bytes. vec_len bytes ≤ chunks * 65536) }
+// The next chunk of a file, in the buffer that it is read into. A read that fails or finds the end leaves it short, and the next one goes on.
+pub fn read_chunk<'a>(file: &mut impl Read, buffer: &'a mut [u8]) -> &'a [u8]
+    ensures { length result.now ≤ length buffer.old }
 {
-    let mut bytes = Vec::new(alloc);
-    let mut chunk = [0u8; CHUNK];
-    for _ in 0..chunks {
-        let n = read_full(file, &mut chunk);
-        bytes.extend_from_slice(&chunk[..n])?;
-    }
-    Ok(bytes)
+    let n = read_full(file, buffer);
+    &buffer[..n]
 }
 
 // Whether nothing is left to be read. A folder, which opens and cannot be read, answers false, and so does a file that is too long.
