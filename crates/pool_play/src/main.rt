@@ -20,7 +20,7 @@ fn no_step(rt: &impl Print, number: usize) -> io::Result<()> {
     println!(rt; "line {number} is no step")
 }
 
-// A line is a step, whose line of output ends with what each master holds then, or is said to be none. No byte of a step is none of a text.
+// A line is a step, whose line of output ends with what each master holds then, or is said to be none. A line that is no text is no step either.
 fn play_line(rt: &impl Print, play: &mut Play, number: usize, line: &[u8]) -> io::Result<()> {
     let Ok(text) = str::from_utf8(line) else {
         return no_step(rt, number);
