@@ -6,7 +6,9 @@ use mathlib.Core.Bool.{Bool, true, false, not, ◌&&◌, ◌||◌}
 use lib.Dec.{eqb}
 use borrow.Author.Tests.{eqb-true, eq-eqb}
 use Rattle.std.specs.List.{list_any}
-use Rattle.refusal.specs.Answer.{none_of}
+use Rattle.std.specs.Prelude.{Ok, Err}
+use Rattle.refusal.specs.declared.Refusal.{Refusal}
+use Rattle.refusal.specs.Answer.{Answer, refused_if, none_of}
 
 eqb_turn : (x y : ℕ) → eqb x y ≡ eqb y x
 eqb_turn x y = split (eqb x y) (eqb y x) refl refl
@@ -37,3 +39,11 @@ absent wanted x f = split (none_of wanted x) (sym (among wanted x) ∙ f)
     split : (n : Bool) → not n ≡ false → n ≡ true
     split true g = refl
     split false g = sym g
+
+-- What a check answers, where `found` says whether the slice has the length.
+module _ (wanted : List ℕ) (x : ℕ) (found : Bool) (e : found ≡ list_any (λ y. eqb y x) wanted) where
+  pub is_among : (r : Refusal) → found ≡ true → ◌≡◌ {A = Answer (Unit {0})} (Ok tt) (refused_if r (none_of wanted x))
+  is_among r f = rw (there wanted x (sym e ∙ f)) refl
+
+  pub is_none : (r : Refusal) → found ≡ false → ◌≡◌ {A = Answer (Unit {0})} (Err r) (refused_if r (none_of wanted x))
+  is_none r f = rw (absent wanted x (sym e ∙ f)) refl
